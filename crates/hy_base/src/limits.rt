@@ -1,0 +1,31 @@
+//! The limits of the store and of its texts.
+
+/// The most faulty clouds that a store can be set up to bear.
+pub const MAX_F: u8 = 3;
+
+/// The most parts that a value is cut into.
+pub const MAX_K: u8 = 4;
+
+/// The most clouds of a store: twice its faults and its parts.
+pub const MAX_N: u8 = 10;
+
+/// The most bytes of a value.
+pub const MAX_VALUE: u32 = 1_048_576;
+
+/// The most bytes of a key.
+pub const MAX_KEY: usize = 64;
+
+/// The most sessions of one metadata service, and so of clients of a schedule.
+pub const MAX_SESSIONS: u32 = 4_096;
+
+/// The most bytes of a text that a command reads.
+pub const MAX_INPUT: u64 = 16_777_216;
+
+/// The most event lines of a schedule.
+pub const MAX_EVENTS: u32 = 16_384;
+
+/// The most bytes of a value in a schedule or a report.
+pub const MAX_TEXT_VALUE: usize = 4_096;
+
+/// The number of the last line that a fault can name.
+pub const MAX_LINE: u32 = 4_294_967_295;
