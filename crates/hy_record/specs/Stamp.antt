@@ -1,0 +1,25 @@
+-- Timestamps: a sequence number and a client, ordered by the number and then by the client.
+use Rattle.std.specs.Prelude.{ℕ, ◌+◌, Option, Some, None, nat_lt, if◌then◌else◌}
+use Rattle.std.specs.declared.cmp.Ordering.{Ordering}
+use Rattle.std.specs.Ordering.{nat_cmp, ordering_then}
+
+-- a timestamp
+pub record Timestamp : Type 0 where
+  pub sn : ℕ
+  pub cid : ℕ
+
+-- the first sequence number that no timestamp has
+abbrev pub STAMP_END : ℕ
+STAMP_END = 4294967295
+
+-- the timestamp with this sequence number, which has an end
+abbrev pub stamp_of : ℕ → ℕ → Option Timestamp
+stamp_of sn cid = if nat_lt sn STAMP_END then Some (record { sn = sn; cid = cid }) else None
+
+-- the timestamp of a client's write upon a record of this one
+abbrev pub next_stamp : Timestamp → ℕ → Option Timestamp
+next_stamp stamp cid = stamp_of (stamp.sn + 1) cid
+
+-- by the sequence number, and then by the client
+abbrev pub stamp_cmp : Timestamp → Timestamp → Ordering
+stamp_cmp a b = ordering_then (nat_cmp a.sn b.sn) (nat_cmp a.cid b.cid)
