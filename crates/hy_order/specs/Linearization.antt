@@ -1,0 +1,94 @@
+-- When an order of the operations of a key is a linearization of a register.
+use Rattle.std.specs.Prelude.{◌≡◌, ℕ, ◌==◌, Bool, true, false, ◌&&◌, IsTrue, nat_lt, nat_eq, List, [], ◌∷◌, Option, Some, None, Contains}
+use Rattle.std.specs.List.{AllByRecursion, IsDistinct, find, filter_map}
+use Rattle.std.specs.Str.{bytes_eq}
+use Rattle.hy_record.specs.declared.action.Action.{Action}
+use Rattle.hy_record.specs.declared.action.Action.TheVariants as asked
+use Rattle.hy_record.specs.declared.action.Reply.{Reply}
+use Rattle.hy_record.specs.declared.action.Reply.TheVariants as told
+use Rattle.hy_order.specs.declared.operation.End.{End}
+use Rattle.hy_order.specs.declared.operation.End.TheVariants.{Replied, Pending}
+use Rattle.hy_order.specs.declared.operation.Operation.{Operation}
+use Rattle.hy_order.specs.History.{key_of_action}
+
+-- the operation is one of the key
+abbrev pub is_of_key : List ℕ → Operation → Bool
+is_of_key key op = bytes_eq (key_of_action op.action) key
+
+-- the reply of a put, get or delete that finished
+abbrev pub is_finished_reply : Reply → Bool
+is_finished_reply (told.Done stamp) = true
+is_finished_reply (told.Value value stamp) = true
+is_finished_reply (told.Absent stamp) = true
+is_finished_reply (told.Exhausted stamp) = false
+is_finished_reply (told.Collected count) = false
+
+-- a put or a delete, which may have taken effect before it finished
+abbrev pub is_write : Action → Bool
+is_write (asked.Put key value) = true
+is_write (asked.Delete key) = true
+is_write (asked.Get key) = false
+is_write (asked.Collect key) = false
+
+-- a finished put, get or delete: each order of its key lists it
+abbrev pub is_finished : End → Bool
+is_finished (Replied at reply) = is_finished_reply reply
+is_finished (Pending phase have need) = false
+
+-- a finished put, get or delete, or an unfinished put or delete: an order of its key may list it
+abbrev pub may_be_listed : Action → End → Bool
+may_be_listed action (Replied at reply) = is_finished_reply reply
+may_be_listed action (Pending phase have need) = is_write action
+
+-- the operation returned before this step
+abbrev pub returned_before : ℕ → End → Bool
+returned_before step (Replied at reply) = nat_lt at step
+returned_before step (Pending phase have need) = false
+
+-- what the register holds after the action
+abbrev pub register_after : Action → Option (List ℕ) → Option (List ℕ)
+register_after (asked.Put key value) held = Some value
+register_after (asked.Delete key) held = None
+register_after (asked.Get key) held = held
+register_after (asked.Collect key) held = held
+
+-- a reply that tells a value or its absence tells what the register holds
+abbrev pub TellsRegister : Option (List ℕ) → End → Type 0
+TellsRegister held (Replied at (told.Value value stamp)) = held ≡ Some value
+TellsRegister held (Replied at (told.Absent stamp)) = held ≡ None
+TellsRegister held (Replied at (told.Done stamp)) = Unit {0}
+TellsRegister held (Replied at (told.Exhausted stamp)) = Unit {0}
+TellsRegister held (Replied at (told.Collected count)) = Unit {0}
+TellsRegister held (Pending phase have need) = Unit {0}
+
+-- each reply tells what the register holds at its place
+abbrev pub ReadsRegister : Option (List ℕ) → List Operation → Type 0
+ReadsRegister held [] = Unit {0}
+ReadsRegister held (op ∷ later) = TellsRegister held op.end × ReadsRegister (register_after op.action held) later
+
+-- no operation stands behind one that was invoked after it returned
+abbrev pub RespectsRealTime : List Operation → Type 0
+RespectsRealTime [] = Unit {0}
+RespectsRealTime (op ∷ later) = AllByRecursion (λ next. returned_before op.invoked next.end ≡ false) later × RespectsRealTime later
+
+-- the operation of a number
+abbrev pub operation_at : List Operation → ℕ → Option Operation
+operation_at history number = find (λ op. op.number == number) history
+
+-- the operations of an order
+abbrev pub listed : List Operation → List ℕ → List Operation
+listed history order = filter_map (operation_at history) order
+
+-- the number is that of an operation which an order of the key may list
+abbrev pub IsMember : List Operation → List ℕ → ℕ → Type 0
+IsMember history key number =
+    (op : Operation) × (operation_at history number ≡ Some op) × IsTrue (is_of_key key op) × IsTrue (may_be_listed op.action op.end)
+
+-- the order of the key contains every finished operation once, respects real time,
+-- and each get answers what the last write before it left
+pub record IsLinearization (history : List Operation) (key order : List ℕ) : Type 0 where
+  pub complete : AllByRecursion (λ op. IsTrue (is_of_key key op && is_finished op.end) → Contains order op.number) history
+  pub members : AllByRecursion (IsMember history key) order
+  pub distinct : IsDistinct nat_eq order
+  pub real_time : RespectsRealTime (listed history order)
+  pub reads : ReadsRegister None (listed history order)

@@ -1,0 +1,14 @@
+//! Histories of operations, their orders, and the report that tells both.
+#![tactic(auto)]
+
+mod held;
+mod history;
+mod operation;
+mod order;
+mod report;
+
+pub use held::{Held, HeldList};
+pub use history::History;
+pub use operation::{End, Operation};
+pub use order::{Order, Orders};
+pub use report::Report;
