@@ -1,3 +1,4 @@
 pub mod History
 pub mod Linearization
 pub mod Keys
+pub mod Report

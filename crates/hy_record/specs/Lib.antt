@@ -1,3 +1,4 @@
 pub mod Stamp
 pub mod Key
 pub mod HeldKey
+pub mod Clouds
