@@ -1,6 +1,6 @@
 -- The slots of a line. A slot reads a word to a value, or answers why the word does not fit:
 -- it parses the word, prints what it parsed, and compares.
-use Rattle.std.specs.Prelude.{ℕ, ◌+◌, ◌-◌, ◌*◌, ◌<◌, nat_lt, nat_le, Bool, ◌&&◌, if◌then◌else◌, List, [], ◌∷◌, length, Result, Ok, Err, codes, EachIndex, slice_index}
+use Rattle.std.specs.Prelude.{ℕ, ◌+◌, ◌-◌, ◌*◌, nat_lt, nat_le, Bool, ◌&&◌, ◌||◌, if◌then◌else◌, List, [], ◌∷◌, length, Result, Ok, Err}
 use Rattle.std.specs.Fmt.{decimal}
 use Rattle.std.specs.Str.{bytes_eq}
 use Rattle.std.specs.Str.Parse.{digits_value}
@@ -33,6 +33,10 @@ number_of low high word =
 
 -- ---- values
 
+-- a digit in lower-case hexadecimal: `0` to `9` are 48 to 57, and `a` to `f` are 97 to 102
+abbrev pub is_lower_digit : ℕ → Bool
+is_lower_digit digit = (nat_le 48 digit && nat_le digit 57) || (nat_le 97 digit && nat_le digit 102)
+
 -- the value of a digit in lower-case hexadecimal
 abbrev pub hex_value : ℕ → ℕ
 hex_value digit = if nat_lt digit 58 then digit - 48 else digit - 87
@@ -53,7 +57,3 @@ unfoldable pub value_of : ℕ → List ℕ → Result (List ℕ) Cause
 value_of limit word =
     let value = hex_bytes word in
     if bytes_eq word (value_word value) then (if nat_le (length value) limit then Ok value else Err LongValue) else Err BadHex
-
--- each number of the list is a byte
-abbrev pub IsBytes : List ℕ → Type 0
-IsBytes bytes = EachIndex bytes (λ i. slice_index bytes i < 256)

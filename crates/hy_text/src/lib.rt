@@ -3,8 +3,12 @@
 
 mod error;
 mod line;
+mod number;
+mod value;
 mod word;
 
 pub use error::LineError;
 pub use line::{Line, Lines};
+pub use number::{push_number, read_number};
+pub use value::{push_value, read_value};
 pub use word::Words;
