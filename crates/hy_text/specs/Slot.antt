@@ -1,7 +1,8 @@
 -- The slots of a line. A slot reads a word to a value, or answers why the word does not fit:
 -- it parses the word, prints what it parsed, and compares.
-use Rattle.std.specs.Prelude.{ℕ, ◌+◌, ◌-◌, ◌*◌, nat_lt, nat_le, Bool, ◌&&◌, ◌||◌, if◌then◌else◌, List, [], ◌∷◌, length, Result, Ok, Err}
+use Rattle.std.specs.Prelude.{ℕ, ◌+◌, ◌-◌, ◌*◌, ◌%◌, ◌==◌, nat_lt, nat_le, Bool, not, ◌&&◌, ◌||◌, if◌then◌else◌, List, [], ◌∷◌, length, Result, Ok, Err}
 use Rattle.std.specs.Fmt.{decimal}
+use Rattle.std.specs.List.{list_all}
 use Rattle.std.specs.Str.{bytes_eq}
 use Rattle.std.specs.Str.Parse.{digits_value}
 use Rattle.hex.specs.Hex.{encode_lower}
@@ -36,6 +37,10 @@ number_of low high word =
 -- a digit in lower-case hexadecimal: `0` to `9` are 48 to 57, and `a` to `f` are 97 to 102
 abbrev pub is_lower_digit : ℕ → Bool
 is_lower_digit digit = (nat_le 48 digit && nat_le digit 57) || (nat_le 97 digit && nat_le digit 102)
+
+-- one pair of digits or more
+abbrev pub is_hex_text : List ℕ → Bool
+is_hex_text word = not (length word == 0) && (length word % 2 == 0) && list_all is_lower_digit word
 
 -- the value of a digit in lower-case hexadecimal
 abbrev pub hex_value : ℕ → ℕ

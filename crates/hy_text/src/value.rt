@@ -2,7 +2,7 @@
 
 ghost use Rattle.std.specs.Prelude.{◌≡◌, ◌<◌, ◌++◌, IfOk, OnOk, OnErr, true, nat_lt};
 ghost use Rattle.std.specs.List.{list_all};
-ghost use Rattle.hy_text.specs.Slot.{is_lower_digit, hex_value, hex_bytes, value_of, value_word};
+ghost use Rattle.hy_text.specs.Slot.{is_lower_digit, is_hex_text, hex_value, hex_bytes, value_of, value_word};
 ghost use Rattle.hy_text.specs.Gives.{Gives};
 
 use crate::error::LineError;
@@ -34,6 +34,13 @@ fn has_digits(word: &[u8]) -> bool
     worst < 16
 }
 
+/// Whether the word is one pair of digits or more.
+fn is_hex(word: &[u8]) -> bool
+    ensures { result ≡ is_hex_text word.now }
+{
+    !word.is_empty() && word.len() % 2 == 0 && has_digits(word)
+}
+
 /// The bytes of pairs of digits.
 fn paired_bytes(alloc: Global, digits: &[u8]) -> Result<Vec<u8>, AllocError>
     requires { list_all is_lower_digit digits.now ≡ true }
@@ -55,7 +62,7 @@ pub fn read_value(alloc: Global, word: &[u8], limit: usize) -> Result<Blob, Line
     if word == b"-".as_slice() {
         return Ok(Blob::of(Vec::new(alloc)));
     }
-    if word.is_empty() || word.len() % 2 == 1 || !has_digits(word) {
+    if !is_hex(word) {
         return Err(LineError::Bad(Cause::BadHex));
     }
     if word.len() / 2 > limit {
