@@ -1,0 +1,4 @@
+pub mod Line
+pub mod Seen
+pub mod Slot
+pub mod Gives

@@ -1,0 +1,14 @@
+//! What every text of the store stands on: lines, words, the slots of a line, and the printed forms of numbers and values.
+#![tactic(auto)]
+
+mod error;
+mod line;
+mod number;
+mod value;
+mod word;
+
+pub use error::LineError;
+pub use line::{Line, Lines};
+pub use number::{push_number, read_number};
+pub use value::{push_value, read_value};
+pub use word::Words;

@@ -1,0 +1,86 @@
+//! Values in a text: two digits of lower-case hexadecimal for each byte, and a dash for the empty value.
+
+ghost use Rattle.std.specs.Prelude.{◌≡◌, ◌<◌, ◌++◌, IfOk, OnOk, OnErr, true, nat_lt};
+ghost use Rattle.std.specs.List.{list_all};
+ghost use Rattle.hy_text.specs.Slot.{is_lower_digit, is_hex_text, hex_value, hex_bytes, value_of, value_word};
+ghost use Rattle.hy_text.specs.Gives.{Gives};
+
+use crate::error::LineError;
+use hy_base::{Blob, Cause, NoMemory};
+use std::alloc::{AllocError, Global};
+
+/// The value of a digit in lower-case hexadecimal; another byte has one beyond 15.
+fn digit_value(byte: u8) -> u8
+    ensures digit { nat_lt result 16 ≡ is_lower_digit byte }
+    ensures value { result < 16 → result ≡ hex_value byte }
+{
+    match byte {
+        b'0'..=b'9' => byte - b'0',
+        b'a'..=b'f' => byte - b'a' + 10,
+        _ => 255,
+    }
+}
+
+/// Whether the word has digits in lower-case hexadecimal alone.
+///
+/// It looks at each byte and leaves at none, so that the loop can take many bytes at once.
+fn has_digits(word: &[u8]) -> bool
+    ensures { result ≡ list_all is_lower_digit word.now }
+{
+    let mut worst = 0u8;
+    for byte in word {
+        worst = worst.max(digit_value(*byte));
+    }
+    worst < 16
+}
+
+/// Whether the word is one pair of digits or more.
+fn is_hex(word: &[u8]) -> bool
+    ensures { result ≡ is_hex_text word.now }
+{
+    !word.is_empty() && word.len() % 2 == 0 && has_digits(word)
+}
+
+/// The bytes of pairs of digits.
+fn paired_bytes(alloc: Global, digits: &[u8]) -> Result<Vec<u8>, AllocError>
+    requires { list_all is_lower_digit digits.now ≡ true }
+    ensures { IfOk result (λ bytes. bytes.items ≡ hex_bytes digits.now) }
+{
+    let mut bytes = Vec::with_capacity(alloc, digits.len() / 2)?;
+    let mut rest = digits;
+    while let [high, low, later @ ..] = rest {
+        bytes.push(digit_value(*high) * 16 + digit_value(*low))?;
+        rest = later;
+    }
+    Ok(bytes)
+}
+
+/// The value of at most `limit` bytes that the word prints.
+pub fn read_value(alloc: Global, word: &[u8], limit: usize) -> Result<Blob, LineError>
+    ensures { Gives result (value_of limit word.now) }
+{
+    if word == b"-".as_slice() {
+        return Ok(Blob::of(Vec::new(alloc)));
+    }
+    if !is_hex(word) {
+        return Err(LineError::Bad(Cause::BadHex));
+    }
+    if word.len() / 2 > limit {
+        return Err(LineError::Bad(Cause::LongValue));
+    }
+    Ok(Blob::of(paired_bytes(alloc, word)?))
+}
+
+/// Appends the printed form of the value.
+pub fn push_value(out: &mut Vec<u8>, value: &[u8]) -> Result<(), NoMemory>
+    ensures ok { OnOk result (out.new.items ≡ out.old.items ++ value_word value.now) }
+    ensures err { OnErr result (out.new.items ≡ out.old.items) }
+{
+    if value.is_empty() {
+        out.push(b'-')?;
+        return Ok(());
+    }
+    let digits = hex::encode(*out.allocator(), value)?;
+    out.extend_from_slice(digits.as_bytes())?;
+    Ok(())
+}
