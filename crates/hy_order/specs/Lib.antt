@@ -2,3 +2,4 @@ pub mod History
 pub mod Linearization
 pub mod Keys
 pub mod Report
+pub mod Words

@@ -6,9 +6,11 @@ mod history;
 mod operation;
 mod order;
 mod report;
+mod writing;
 
 pub use held::{Held, HeldList};
 pub use history::History;
 pub use operation::{End, Operation};
 pub use order::{Order, Orders};
 pub use report::Report;
+pub use writing::write_report;

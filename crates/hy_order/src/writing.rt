@@ -1,15 +1,276 @@
 //! Writing a report, line by line.
 
-ghost use Rattle.std.specs.Prelude.{◌≡◌, ◌++◌, IfOk, OnOk};
-ghost use Rattle.hy_text.specs.Line.{line_text};
+ghost use Rattle.std.specs.Prelude.{◌≡◌, ◌++◌, IfOk, OnOk, codes, map, [], ◌∷◌};
+ghost use Rattle.std.specs.Fmt.{decimal};
+ghost use Rattle.hy_text.specs.Line.{line_text, text_of};
+ghost use Rattle.hy_text.specs.Slot.{value_word};
+ghost use Rattle.hy_record.specs.Clouds.{clouds_of};
 ghost use Rattle.hy_order.specs.Report.{
-    report_text, operation_row, order_row, held_row, action_words, reply_words, end_words, phase_word, cloud_word,
+  report_text,
+  operation_row,
+  order_row,
+  held_row,
+  end_row,
+  stamp_words,
+  action_words,
+  reply_words,
+  end_words,
+  phase_word,
+  cloud_word,
 };
+ghost use Rattle.hy_order.specs.Words.{led_by, spaced};
 
 use crate::held::Held;
 use crate::operation::{End, Operation};
 use crate::order::Order;
 use crate::report::Report;
 use hy_base::{Blob, NoMemory};
-use hy_record::{Action, Key, Phase, Reply, Stamp};
+use hy_record::{Action, Phase, Reply, Stamp};
+use hy_text::{push_number, push_value};
 use std::alloc::Global;
+
+/// The text of the report.
+pub fn write_report(alloc: Global, report: &Report) -> Result<Blob, NoMemory>
+    ensures { IfOk result (λ text. text ≡ report_text report.now) }
+{
+    let mut out = Vec::new(alloc);
+    push_operations(&mut out, report.history.items())?;
+    push_orders(&mut out, report.orders.items())?;
+    push_copies(&mut out, report.held.items())?;
+    push_end_line(&mut out, report)?;
+    Ok(Blob::of(out))
+}
+
+fn push_operations(out: &mut Vec<u8>, ops: &[Operation]) -> Result<(), NoMemory>
+    ensures { OnOk result (out.new.items ≡ out.old.items ++ text_of (map operation_row ops.now)) }
+{
+    for op in ops {
+        push_operation(out, op)?;
+    }
+    Ok(())
+}
+
+fn push_orders(out: &mut Vec<u8>, orders: &[Order]) -> Result<(), NoMemory>
+    ensures { OnOk result (out.new.items ≡ out.old.items ++ text_of (map order_row orders.now)) }
+{
+    for order in orders {
+        push_order(out, order)?;
+    }
+    Ok(())
+}
+
+fn push_copies(out: &mut Vec<u8>, copies: &[Held]) -> Result<(), NoMemory>
+    ensures { OnOk result (out.new.items ≡ out.old.items ++ text_of (map held_row copies.now)) }
+{
+    for held in copies {
+        push_held(out, held)?;
+    }
+    Ok(())
+}
+
+fn push_operation(out: &mut Vec<u8>, op: &Operation) -> Result<(), NoMemory>
+    ensures { OnOk result (out.new.items ≡ out.old.items ++ line_text (operation_row op.now)) }
+{
+    out.extend_from_slice(b"op")?;
+    push_number_word(out, op.number.into())?;
+    push_number_word(out, op.client.into())?;
+    push_action(out, &op.action)?;
+    push_number_word(out, op.invoked)?;
+    push_end(out, &op.end)?;
+    push_line_end(out)?;
+    Ok(())
+}
+
+fn push_action(out: &mut Vec<u8>, action: &Action) -> Result<(), NoMemory>
+    ensures { OnOk result (out.new.items ≡ out.old.items ++ spaced (action_words action.now)) }
+{
+    match action {
+        Action::Put { key, value } => {
+            out.extend_from_slice(b" put")?;
+            push_word(out, key.bytes())?;
+            push_value_word(out, value.bytes())
+        }
+        Action::Get { key } => {
+            out.extend_from_slice(b" get")?;
+            push_word(out, key.bytes())
+        }
+        Action::Delete { key } => {
+            out.extend_from_slice(b" delete")?;
+            push_word(out, key.bytes())
+        }
+        Action::Collect { key } => {
+            out.extend_from_slice(b" collect")?;
+            push_word(out, key.bytes())
+        }
+    }
+}
+
+fn push_end(out: &mut Vec<u8>, end: &End) -> Result<(), NoMemory>
+    ensures { OnOk result (out.new.items ≡ out.old.items ++ spaced (end_words end.now)) }
+{
+    match end {
+        End::Replied { at, reply } => {
+            push_number_word(out, *at)?;
+            push_reply(out, reply)
+        }
+        End::Pending { phase, have, need } => {
+            out.extend_from_slice(b" -")?;
+            push_phase(out, *phase)?;
+            push_number_word(out, (*have).into())?;
+            push_number_word(out, (*need).into())
+        }
+    }
+}
+
+fn push_reply(out: &mut Vec<u8>, reply: &Reply) -> Result<(), NoMemory>
+    ensures { OnOk result (out.new.items ≡ out.old.items ++ spaced (reply_words reply.now)) }
+{
+    match reply {
+        Reply::Done(stamp) => {
+            out.extend_from_slice(b" done")?;
+            push_stamp(out, stamp)
+        }
+        Reply::Exhausted(stamp) => {
+            out.extend_from_slice(b" exhausted")?;
+            push_stamp(out, stamp)
+        }
+        Reply::Value(value, stamp) => {
+            out.extend_from_slice(b" value")?;
+            push_value_word(out, value.bytes())?;
+            push_stamp(out, stamp)
+        }
+        Reply::Absent(stamp) => {
+            out.extend_from_slice(b" none")?;
+            push_stamp(out, stamp)
+        }
+        Reply::Collected(count) => {
+            out.extend_from_slice(b" collected")?;
+            push_number_word(out, (*count).into())
+        }
+    }
+}
+
+fn push_phase(out: &mut Vec<u8>, phase: Phase) -> Result<(), NoMemory>
+    ensures { OnOk result (out.new.items ≡ out.old.items ++ 32 ∷ phase_word phase) }
+{
+    let word: &[u8] = match phase {
+        Phase::Read => b"read",
+        Phase::Store => b"store",
+        Phase::Update => b"update",
+        Phase::Fetch => b"fetch",
+        Phase::Watch => b"watch",
+        Phase::Reread => b"reread",
+        Phase::Olds => b"olds",
+        Phase::Drop => b"drop",
+        Phase::Forget => b"forget",
+    };
+    push_word(out, word)
+}
+
+fn push_stamp(out: &mut Vec<u8>, stamp: &Stamp) -> Result<(), NoMemory>
+    ensures { OnOk result (out.new.items ≡ out.old.items ++ spaced (stamp_words stamp.now)) }
+{
+    push_number_word(out, stamp.sn().into())?;
+    push_number_word(out, stamp.cid().into())
+}
+
+fn push_order(out: &mut Vec<u8>, order: &Order) -> Result<(), NoMemory>
+    ensures { OnOk result (out.new.items ≡ out.old.items ++ line_text (order_row order.now)) }
+{
+    out.extend_from_slice(b"order")?;
+    push_word(out, order.key.bytes())?;
+    push_numbers(out, b' ', order.ops.items())?;
+    push_line_end(out)?;
+    Ok(())
+}
+
+/// Appends each number with the separator before it.
+fn push_numbers(out: &mut Vec<u8>, separator: u8, numbers: &[u32]) -> Result<(), NoMemory>
+    ensures { OnOk result (out.new.items ≡ out.old.items ++ led_by separator (map decimal numbers.now)) }
+{
+    for number in numbers {
+        out.push(separator)?;
+        push_number(out, u64::from(*number))?;
+    }
+    Ok(())
+}
+
+fn push_held(out: &mut Vec<u8>, held: &Held) -> Result<(), NoMemory>
+    ensures { OnOk result (out.new.items ≡ out.old.items ++ line_text (held_row held.now)) }
+{
+    out.extend_from_slice(b"held")?;
+    push_word(out, held.key.bytes())?;
+    push_stamp(out, &held.stamp)?;
+    let clouds = cloud_numbers(*out.allocator(), held.clouds)?;
+    push_clouds(out, &clouds)?;
+    push_line_end(out)?;
+    Ok(())
+}
+
+fn push_clouds(out: &mut Vec<u8>, clouds: &[u32]) -> Result<(), NoMemory>
+    ensures { OnOk result (out.new.items ≡ out.old.items ++ 32 ∷ cloud_word clouds.now) }
+{
+    let Some((first, rest)) = clouds.split_first() else {
+        return push_word(out, b"-");
+    };
+    push_number_word(out, u64::from(*first))?;
+    push_numbers(out, b',', rest)?;
+    Ok(())
+}
+
+/// The numbers of the clouds of the set, in increasing order.
+fn cloud_numbers(alloc: Global, clouds: u16) -> Result<Vec<u32>, NoMemory>
+    ensures { IfOk result (λ numbers. numbers.items ≡ clouds_of clouds) }
+{
+    let mut numbers = Vec::new(alloc);
+    for cloud in 0..16u32 {
+        if (clouds >> cloud) % 2 == 1 {
+            numbers.push(cloud)?;
+        }
+    }
+    Ok(numbers)
+}
+
+fn push_end_line(out: &mut Vec<u8>, report: &Report) -> Result<(), NoMemory>
+    ensures { OnOk result (out.new.items ≡ out.old.items ++ line_text (end_row report.now)) }
+{
+    out.extend_from_slice(b"end")?;
+    push_number_word(out, report.history.items().len() as u64)?;
+    push_number_word(out, report.orders.items().len() as u64)?;
+    push_line_end(out)?;
+    Ok(())
+}
+
+/// Appends a space and the word.
+fn push_word(out: &mut Vec<u8>, word: &[u8]) -> Result<(), NoMemory>
+    ensures { OnOk result (out.new.items ≡ out.old.items ++ 32 ∷ word.now) }
+{
+    out.push(b' ')?;
+    out.extend_from_slice(word)?;
+    Ok(())
+}
+
+/// Appends a space and the number.
+fn push_number_word(out: &mut Vec<u8>, number: u64) -> Result<(), NoMemory>
+    ensures { OnOk result (out.new.items ≡ out.old.items ++ 32 ∷ decimal number) }
+{
+    out.push(b' ')?;
+    push_number(out, number)?;
+    Ok(())
+}
+
+/// Appends a space and the value.
+fn push_value_word(out: &mut Vec<u8>, value: &[u8]) -> Result<(), NoMemory>
+    ensures { OnOk result (out.new.items ≡ out.old.items ++ 32 ∷ value_word value.now) }
+{
+    out.push(b' ')?;
+    push_value(out, value)?;
+    Ok(())
+}
+
+fn push_line_end(out: &mut Vec<u8>) -> Result<(), NoMemory>
+    ensures { OnOk result (out.new.items ≡ out.old.items ++ 10 ∷ []) }
+{
+    out.push(b'\n')?;
+    Ok(())
+}

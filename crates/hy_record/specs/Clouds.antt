@@ -4,5 +4,5 @@ use Rattle.std.specs.List.{range_with_len}
 use Rattle.std.specs.Int.{bit_at}
 
 -- the clouds of a set, in increasing order
-abbrev pub clouds_of : ℕ → List ℕ
+unfoldable pub clouds_of : ℕ → List ℕ
 clouds_of set = filter (λ cloud. bit_at set cloud == 1) (range_with_len 0 16)

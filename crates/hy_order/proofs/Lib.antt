@@ -1,0 +1,3 @@
+mod Spaced
+mod Lines
+mod Clouds
