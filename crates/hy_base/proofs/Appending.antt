@@ -26,5 +26,5 @@ Appends-more old between new bytes written count p q =
     let rest = drop written bytes in
     let whole : take (length bytes - written) rest ≡ rest = take_all (length bytes - written) rest (omega (arith, length-drop written bytes)) in
     let joined : take (written + count) bytes ≡ take written bytes ++ take count (take (length bytes - written) rest) =
-        take-add written count bytes ∙ ap (λ piece. take written bytes ++ take count piece) (sym whole) in
+    take-add written count bytes ∙ ap (λ piece. take written bytes ++ take count piece) (sym whole) in
     subst (Appends old new) (sym joined) (Appends-trans old between new _ _ p q)

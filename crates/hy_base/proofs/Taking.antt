@@ -38,10 +38,11 @@ ReadTakes-front bytes buffer given at cut count in_range positive is gives =
     let front : given ≡ take count rest = gives ∙ ap (take count) whole in
     let size : length given ≡ count = ap length front ∙ length-take-le count rest inside in
     let same : take count (given ++ drop count buffer) ≡ take count rest = take_at given (drop count buffer) count size ∙ front in
-    let after : drop (at + count) bytes ≡ drop count rest = sym (drop-drop count at bytes) in
-    (ap Some (sym (ap (λ piece. piece ++ drop (at + count) bytes) same ∙ ap (λ piece. take count rest ++ piece) after ∙ take-append-drop count rest)),
-     λ none some. nil_from_length (drop (at + count) bytes)
-        (omega (arith, length-drop (at + count) bytes, length-drop at bytes, length-append given (drop count buffer), length-drop count buffer)))
+    let after : drop (at + count) bytes ≡ drop count rest = sym (drop-drop count at bytes) in (
+      ap Some (sym (ap (λ piece. piece ++ drop (at + count) bytes) same ∙ ap (λ piece. take count rest ++ piece) after ∙ take-append-drop count rest)),
+      λ none some. nil_from_length (drop (at + count) bytes)
+          (omega (arith, length-drop (at + count) bytes, length-drop at bytes, length-append given (drop count buffer), length-drop count buffer)),
+    )
 
 -- a source that was read up to a limit failed otherwise
 pub Reading-stopped : (old new : Option (List ℕ)) (limit : ℕ) (fault : ReadAllFault) (taken : List ℕ)
@@ -50,7 +51,7 @@ Reading-stopped old new limit fault taken other takes within = record {
   taken = taken;
   takes = takes;
   too_long = (λ is. absurd (other (let same : fault ≡ TooLong = cc in same)), λ over. absurd (omega arith));
-  whole = tt
+  whole = tt;
 }
 
 -- a source that was read up to a limit has bytes past it
@@ -60,7 +61,7 @@ Reading-over old new limit taken takes over = record {
   taken = taken;
   takes = takes;
   too_long = (λ is. over, λ past. refl);
-  whole = tt
+  whole = tt;
 }
 
 -- a source that was read up to a limit is at its end
@@ -70,7 +71,7 @@ Reading-ended old new limit taken takes within end = record {
   taken = taken;
   takes = takes;
   too_long = (λ is. absurd (let no : ⊥ = cc in no), λ over. absurd (omega arith));
-  whole = (refl, end)
+  whole = (refl, end);
 }
 
 -- a source that is told after it was read up to a limit was told before, and the answer is about that text

@@ -34,7 +34,11 @@ impl Calls {
     {
         self.made = self.made.saturating_add(1);
         let number = self.made;
-        if self.failing.iter().any(|&failing| u64::from(failing) == number) {
+        if self
+            .failing
+            .iter()
+            .any(|&failing| u64::from(failing) == number)
+        {
             return Err(self.fault());
         }
         Ok(())

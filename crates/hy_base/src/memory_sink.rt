@@ -26,11 +26,12 @@ impl Model for BytesOut {
     ghost Value = { MemoryOutput };
 
     ghost view = { λ output. record {
-        written = output.bytes.items;
-        room = output.room;
-        failing = output.calls.failing.items;
-        calls = output.calls.made;
-        faults = output.calls.faults } };
+      written = output.bytes.items;
+      room = output.room;
+      failing = output.calls.failing.items;
+      calls = output.calls.made;
+      faults = output.calls.faults;
+    } };
 
     ghost invariant = { λ output. (vec_len output.bytes ≤ output.room) × (output.room ≤ vec_capacity output.bytes) };
 }

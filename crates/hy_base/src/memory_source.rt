@@ -27,11 +27,12 @@ impl Model for BytesIn {
     ghost Value = { MemoryInput };
 
     ghost view = { λ input. record {
-        rest = drop input.at input.bytes;
-        cut = input.cut;
-        failing = input.calls.failing.items;
-        calls = input.calls.made;
-        faults = input.calls.faults } };
+      rest = drop input.at input.bytes;
+      cut = input.cut;
+      failing = input.calls.failing.items;
+      calls = input.calls.made;
+      faults = input.calls.faults;
+    } };
 
     ghost invariant = { λ input. (input.at ≤ length input.bytes) × (1 ≤ input.cut) };
 }

@@ -59,11 +59,7 @@ const CHUNK: usize = 65_536;
 /// Reads a source to its end, as long as it has at most `limit` bytes.
 ///
 /// After a fault the source has lost what was taken until then.
-pub fn read_all<S: Source>(
-    alloc: Global,
-    source: &mut S,
-    limit: u64,
-) -> Result<Blob, ReadAllFault>
+pub fn read_all<S: Source>(alloc: Global, source: &mut S, limit: u64) -> Result<Blob, ReadAllFault>
     ensures taken { Reading (S.left source.old) (S.left source.new) limit result }
     ensures told { IsSome (S.left source.new) → ReadsText (S.left source.old) limit result }
     ensures stays { S.faults source.old ≤ S.faults source.new }

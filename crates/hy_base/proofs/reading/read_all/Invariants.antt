@@ -7,7 +7,7 @@ invariant-loop-bytes g l = record {
   room : 0 < vec_len l.chunk;
   within : length l.bytes.items ≤ l.limit;
   taken : Takes (g.S.Source.left l.initial.source) (g.S.Source.left l.source) l.bytes.items;
-  stays : g.S.Source.faults l.initial.source ≤ g.S.Source.faults l.source
+  stays : g.S.Source.faults l.initial.source ≤ g.S.Source.faults l.source;
 }
 
 abbrev pub decreases-loop-bytes : goal.decreases-loop-bytes

@@ -7,5 +7,5 @@ pub loop-written-preserved : goal.loop-written-preserved
 loop-written-preserved g c = record {
   within = grind (arith, common_steps);
   added = Appends-more _ (g.K.Sink.written c.loop-written.sink) _ c.args.bytes.now c.loop-written.written c.in_ok-written.field-0 c.loop-written.invariant.added c.in_ok-written.ensures.appends;
-  stays = omega (arith, c.in_ok-written.ensures.cause.stays, c.loop-written.invariant.stays)
+  stays = omega (arith, c.in_ok-written.ensures.cause.stays, c.loop-written.invariant.stays);
 }

@@ -6,7 +6,7 @@ abbrev pub invariant-loop-written : goal.invariant-loop-written
 invariant-loop-written g l = record {
   within : l.written ≤ length l.bytes;
   added : Appends (g.K.Sink.written l.initial.sink) (g.K.Sink.written l.sink) (take l.written l.bytes);
-  stays : g.K.Sink.faults l.initial.sink ≤ g.K.Sink.faults l.sink
+  stays : g.K.Sink.faults l.initial.sink ≤ g.K.Sink.faults l.sink;
 }
 
 abbrev pub decreases-loop-written : goal.decreases-loop-written
