@@ -1,8 +1,6 @@
 -- Lemmas on reads, one after another.
-use Rattle.std.proofs.Common.{◌≡◌, ◌≢◌, ℕ, ◌+◌, ◌-◌, ◌<◌, ◌≤◌, min, List, [], ◌++◌, length, take, drop, Option, Some, None, Result, Ok, Err, IsSome, IfOk, refl, sym, ap, ◌∙◌, append_assoc, append-nil, subst, rules, arith, length-append, length-drop, take-append-drop}
+use Rattle.std.proofs.Common.{◌≡◌, ◌≢◌, ℕ, ◌+◌, ◌-◌, ◌<◌, ◌≤◌, min, List, [], ◌++◌, length, take, drop, Option, Some, None, Result, Ok, Err, IsSome, refl, sym, ap, ◌∙◌, append_assoc, append-nil, subst, arith, length-append, length-drop, take-append-drop}
 use Rattle.std.proofs.lemmas.List.{take_at, take_all, length-take-le, nil_from_length, drop-drop}
-use Rattle.std.proofs.lemmas.Grind.{common_steps}
-use Rattle.hy_base.specs.declared.failure.Failed.{Failed}
 use Rattle.hy_base.specs.declared.blob.Blob.{Blob}
 use Rattle.hy_base.specs.declared.reading.ReadAllFault.{ReadAllFault}
 use Rattle.hy_base.specs.declared.reading.ReadAllFault.TheVariants.{ReadFault, TooLong, NoMemory}

@@ -1,5 +1,5 @@
 -- An output in memory: what was written to it, and which of its writes fail.
-use Rattle.std.specs.Prelude.{ℕ, ◌+◌, ◌<◌, ◌⊎◌, List, ◌++◌, length, Result, Ok, Err}
+use Rattle.std.specs.Prelude.{ℕ, ◌+◌, ◌<◌, ◌⊎◌, List, [], ◌++◌, length, Result, Ok, Err}
 use Rattle.hy_base.specs.Faults.{next_count, FailsNext}
 use Rattle.hy_base.specs.declared.failure.Failed.{Failed}
 
@@ -10,6 +10,10 @@ pub record MemoryOutput : Type 0 where
   pub failing : List ℕ
   pub calls : ℕ
   pub faults : ℕ
+
+-- an output with this room before its first write
+abbrev pub fresh_output : ℕ → List ℕ → MemoryOutput
+fresh_output room failing = record { written = []; room = room; failing = failing; calls = 0; faults = 0 }
 
 -- the next write fails: its number says so, or the piece is longer than the room left
 abbrev pub RefusesPiece : MemoryOutput → List ℕ → Type 0

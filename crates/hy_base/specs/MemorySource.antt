@@ -11,6 +11,10 @@ pub record MemoryInput : Type 0 where
   pub calls : ℕ
   pub faults : ℕ
 
+-- an input of these bytes before its first read
+abbrev pub fresh_input : List ℕ → ℕ → List ℕ → MemoryInput
+fresh_input bytes cut failing = record { rest = bytes; cut = cut; failing = failing; calls = 0; faults = 0 }
+
 -- how many bytes a read gives that does not fail
 abbrev pub given_count : MemoryInput → ℕ → ℕ
 given_count input room = min input.cut (min room (length input.rest))

@@ -36,8 +36,10 @@ impl<R: Read> Source for ReadSource<R> {
     fn read(&mut self, buf: &mut [u8]) -> Result<usize, Failed>
         ensures count { ReadsAtMost (length buf.old) result }
         ensures takes { ReadTakes None None result buf.new }
-        ensures cause { HasCause (⟦<ReadSource<R> as Source>⟧.faults self.old) (⟦<ReadSource<R> as Source>⟧.faults self.new) result }
-        ensures counts { ⟦<ReadSource<R> as Source>⟧.faults self.new ≡ faults_after (⟦<ReadSource<R> as Source>⟧.faults self.old) result }
+        ensures cause { let faults = ⟦<ReadSource<R> as Source>⟧.faults in
+            HasCause (faults self.old) (faults self.new) result }
+        ensures counts { let faults = ⟦<ReadSource<R> as Source>⟧.faults in
+            faults self.new ≡ faults_after (faults self.old) result }
     {
         match self.reader.read(buf) {
             Ok(count) => Ok(count),
@@ -75,8 +77,10 @@ impl<W: Write> Sink for WriteSink<W> {
     fn write(&mut self, piece: &[u8]) -> Result<usize, Failed>
         ensures count { WritesSome (length piece.now) result }
         ensures appends { WriteAppends None None result piece.now }
-        ensures cause { HasCause (⟦<WriteSink<W> as Sink>⟧.faults self.old) (⟦<WriteSink<W> as Sink>⟧.faults self.new) result }
-        ensures counts { ⟦<WriteSink<W> as Sink>⟧.faults self.new ≡ faults_after (⟦<WriteSink<W> as Sink>⟧.faults self.old) result }
+        ensures cause { let faults = ⟦<WriteSink<W> as Sink>⟧.faults in
+            HasCause (faults self.old) (faults self.new) result }
+        ensures counts { let faults = ⟦<WriteSink<W> as Sink>⟧.faults in
+            faults self.new ≡ faults_after (faults self.old) result }
     {
         match self.writer.write(piece) {
             Ok(count) if count > 0 || piece.is_empty() => Ok(count),

@@ -1,9 +1,9 @@
 //! A sink into memory that was reserved before.
 
-ghost use Rattle.std.specs.Prelude.{◌≡◌, ◌↔◌, [], Some, length, IsErr, IfOk};
+ghost use Rattle.std.specs.Prelude.{◌≡◌, ◌↔◌, Some, length, IsErr, IfOk};
 ghost use Rattle.hy_base.specs.Faults.{HasCause};
 ghost use Rattle.hy_base.specs.Sink.{WritesSome, WriteAppends};
-ghost use Rattle.hy_base.specs.MemorySink.{RefusesPiece, output_after};
+ghost use Rattle.hy_base.specs.MemorySink.{fresh_output, output_after, RefusesPiece};
 
 use crate::calls::Calls;
 use crate::failure::{Failed, NoMemory};
@@ -33,13 +33,16 @@ impl Model for BytesOut {
       faults = output.calls.faults;
     } };
 
-    ghost invariant = { λ output. (vec_len output.bytes ≤ output.room) × (output.room ≤ vec_capacity output.bytes) };
+    ghost invariant = { λ output.
+        (vec_len output.bytes ≤ output.room) × (output.room ≤ vec_capacity output.bytes) };
 }
 
 impl BytesOut {
-    /// Nothing written yet, with room for `room` bytes; the writes with the numbers in `failing`, from 1, fail.
+    /// Nothing written yet, with memory reserved for `room` bytes.
+    ///
+    /// The writes fail whose numbers, counted from 1, are in `failing`.
     pub fn new(alloc: Global, room: usize, failing: Vec<u32>) -> Result<BytesOut, NoMemory>
-        ensures { IfOk result (λ output. output ≡ record { written = []; room = room; failing = failing.items; calls = 0; faults = 0 }) }
+        ensures { IfOk result (λ output. output ≡ fresh_output room failing.items) }
     {
         let bytes = Vec::with_capacity(alloc, room)?;
         Ok(BytesOut {
@@ -65,7 +68,8 @@ impl Sink for BytesOut {
     /// A piece that is longer than the room left fails whole. No write takes memory.
     fn write(&mut self, piece: &[u8]) -> Result<usize, Failed>
         ensures count { WritesSome (length piece.now) result }
-        ensures appends { WriteAppends (Some self.old.written) (Some self.new.written) result piece.now }
+        ensures appends { WriteAppends (Some self.old.written) (Some self.new.written) result
+            piece.now }
         ensures cause { HasCause self.old.faults self.new.faults result }
         ensures fails { IsErr result ↔ RefusesPiece self.old piece.now }
         ensures whole { IfOk result (λ count. count ≡ length piece.now) }

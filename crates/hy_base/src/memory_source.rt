@@ -3,7 +3,7 @@
 ghost use Rattle.std.specs.Prelude.{◌≡◌, ◌≤◌, ◌↔◌, Some, length, IsErr, IfOk};
 ghost use Rattle.hy_base.specs.Faults.{HasCause, FailsNext};
 ghost use Rattle.hy_base.specs.Source.{ReadsAtMost, ReadTakes};
-ghost use Rattle.hy_base.specs.MemorySource.{given_count, input_after};
+ghost use Rattle.hy_base.specs.MemorySource.{fresh_input, given_count, input_after};
 
 use crate::blob::Blob;
 use crate::calls::Calls;
@@ -38,10 +38,12 @@ impl Model for BytesIn {
 }
 
 impl BytesIn {
-    /// All of these bytes, at most `cut` of them per read; the reads with the numbers in `failing`, from 1, fail.
+    /// All of these bytes, at most `cut` of them per read.
+    ///
+    /// The reads fail whose numbers, counted from 1, are in `failing`.
     pub fn new(bytes: Blob, cut: usize, failing: Vec<u32>) -> BytesIn
         requires { 1 ≤ cut }
-        ensures { result ≡ record { rest = bytes; cut = cut; failing = failing.items; calls = 0; faults = 0 } }
+        ensures { result ≡ fresh_input bytes cut failing.items }
     {
         BytesIn {
             bytes,

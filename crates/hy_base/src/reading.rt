@@ -63,7 +63,8 @@ pub fn read_all<S: Source>(alloc: Global, source: &mut S, limit: u64) -> Result<
     ensures taken { Reading (S.left source.old) (S.left source.new) limit result }
     ensures told { IsSome (S.left source.new) → ReadsText (S.left source.old) limit result }
     ensures stays { S.faults source.old ≤ S.faults source.new }
-    ensures rose { IsErrOf result ReadAllFault.ReadFault → Rose (S.faults source.old) (S.faults source.new) }
+    ensures rose { IsErrOf result ReadAllFault.ReadFault →
+        Rose (S.faults source.old) (S.faults source.new) }
 {
     let mut chunk = zeros(alloc, CHUNK)?;
     let mut bytes = Vec::new(alloc);

@@ -17,7 +17,9 @@ impl From<Failed> for WriteFault {
     }
 }
 
-/// Writes all of the bytes, in as many pieces as the sink takes. It ends at the first write that fails.
+/// Writes all of the bytes, in as many pieces as the sink takes them in.
+///
+/// It ends at the first write that fails.
 pub fn write_all<K: Sink>(sink: &mut K, bytes: &[u8]) -> Result<(), WriteFault>
     ensures cause { HasCause (K.faults sink.old) (K.faults sink.new) result }
     ensures ok { OnOk result (Appends (K.written sink.old) (K.written sink.new) bytes.now) }

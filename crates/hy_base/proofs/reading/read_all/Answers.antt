@@ -1,7 +1,6 @@
-use Rattle.std.proofs.Common.{◌≡◌, ◌∙◌, ℕ, ◌≤◌, ◌<◌, ◌++◌, length, take, arith, length-append, length-take}
+use Rattle.std.proofs.Common.{◌≡◌, ◌∙◌, ◌<◌, ◌++◌, length, take, arith, length-append, length-take}
 use Rattle.std.proofs.lemmas.Result.{err_from_is_err_and}
 use Rattle.std.proofs.lemmas.List.{take_at}
-use Rattle.hy_base.specs.Source.{Takes}
 use Rattle.hy_base.proofs.Taking.{Takes-trans, Takes-kept, Reading-stopped, Reading-over, Reading-ended, Reading-told}
 use Rattle.hy_base.proofs.reading.read_all.Goals as goal
 

@@ -1,4 +1,4 @@
-use Rattle.std.proofs.Common.{arith, length-take, length-drop}
+use Rattle.std.proofs.Common.{arith}
 use Rattle.std.proofs.lemmas.Grind.{common_steps}
 use Rattle.hy_base.proofs.Appending.{Appends-more}
 use Rattle.hy_base.proofs.writing.write_all.Goals as goal
