@@ -1,5 +1,5 @@
 -- What a write adds to a sink that tells what was written.
-use Rattle.std.specs.Prelude.{◌≡◌, ℕ, ◌<◌, ◌≤◌, List, [], ◌++◌, take, Option, Some, None, Result, Ok, Err, IfOk}
+use Rattle.std.specs.Prelude.{◌≡◌, ℕ, ◌<◌, ◌≤◌, List, [], ◌++◌, length, take, Option, Some, None, Result, Ok, Err, IfOk}
 use Rattle.hy_base.specs.declared.failure.Failed.{Failed}
 
 -- what is told to be written after a call is what was told before it, and then the bytes that the call added
@@ -16,3 +16,9 @@ WritesSome size result = IfOk result (λ count. (count ≤ size) × (0 < size �
 abbrev pub WriteAppends : Option (List ℕ) → Option (List ℕ) → Result ℕ Failed → List ℕ → Type 0
 WriteAppends old new (Ok count) piece = Appends old new (take count piece)
 WriteAppends old new (Err failed) piece = Appends old new []
+
+-- a front of the bytes was added, and not all of them
+pub record AppendsFront (old new : Option (List ℕ)) (bytes : List ℕ) : Type 0 where
+  pub count : ℕ
+  pub short : count < length bytes
+  pub appends : Appends old new (take count bytes)

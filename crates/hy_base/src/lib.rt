@@ -1,14 +1,21 @@
 //! The ground that every crate stands on: bytes, failures, limits, and the traits of the outside.
 #![tactic(auto)]
 
+mod adapters;
 mod blob;
+mod calls;
 mod failure;
 mod fault;
 mod limits;
+mod memory_sink;
+mod memory_source;
 mod numbers;
+mod reading;
 mod sink;
 mod source;
+mod writing;
 
+pub use adapters::{ReadSource, WriteSink};
 pub use blob::Blob;
 pub use failure::{Failed, NoMemory};
 pub use fault::{Cause, TextError, TextFault};
@@ -16,9 +23,13 @@ pub use limits::{
     MAX_EVENTS, MAX_F, MAX_INPUT, MAX_K, MAX_KEY, MAX_LINE, MAX_N, MAX_SESSIONS, MAX_TEXT_VALUE,
     MAX_VALUE,
 };
+pub use memory_sink::BytesOut;
+pub use memory_source::BytesIn;
 pub use numbers::Numbers;
+pub use reading::{ReadAllFault, read_all};
 pub use sink::Sink;
 pub use source::Source;
+pub use writing::{WriteFault, write_all};
 
 #[cfg(test)]
 mod tests;
