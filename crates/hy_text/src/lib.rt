@@ -2,13 +2,15 @@
 #![tactic(auto)]
 
 mod error;
+mod key;
 mod line;
 mod number;
 mod value;
 mod word;
 
 pub use error::LineError;
+pub use key::{push_key, read_key};
 pub use line::{Line, Lines};
 pub use number::{push_number, read_number};
 pub use value::{push_value, read_value};
-pub use word::Words;
+pub use word::{Words, read_keyword};
