@@ -7,11 +7,8 @@ use Rattle.std.proofs.lemmas.List.Elements.{All-from_recursion}
 use Rattle.std.proofs.lemmas.List.Folds.{list_all-append}
 use Rattle.std.proofs.lemmas.List.Splits.{slice_split_at, slice_split_none, join_with_byte-slice_split}
 use Rattle.hy_text.specs.Line.{Line, pieces_at, words_of, lines_of, lines_of_pieces, ended_line, line_text, text_of, is_word_byte, is_word, is_row}
+use Rattle.hy_text.proofs.Bools.{and_both}
 use Rattle.hy_text.proofs.Pieces.{lines_of-cut, lines_of-none}
-
-and_both : (a b : Bool) → (a && b) ≡ true → (a ≡ true) × (b ≡ true)
-and_both true b e = (refl, e)
-and_both false b e = absurd cc
 
 -- ---- a row is read again
 
