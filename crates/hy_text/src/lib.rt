@@ -16,3 +16,6 @@ pub use line::{Line, Lines};
 pub use number::{push_number, read_number, read_u32};
 pub use value::{push_value, read_value};
 pub use word::{Words, read_keyword};
+
+#[cfg(test)]
+mod tests;

@@ -1,4 +1,4 @@
-use Rattle.std.proofs.Common.{sym, ◌∙◌}
+use Rattle.std.proofs.Common.{sym}
 use Rattle.hy_text.proofs.Keys.{key_word-refused}
 use Rattle.hy_text.proofs.key.read_key.Goals as goal
 

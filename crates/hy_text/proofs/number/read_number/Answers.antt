@@ -1,4 +1,4 @@
-use Rattle.std.proofs.Common.{◌≡◌, ◌<◌, ◌≤◌, sym, ◌∙◌, ap, arith, Ok}
+use Rattle.std.proofs.Common.{◌≡◌, sym, arith}
 use Rattle.std.specs.Str.Parse.{digits_value}
 use Rattle.hy_text.proofs.Numbers.{HasDigits, number_of-digits, number_of-refused}
 use Rattle.hy_text.proofs.number.read_number.Goals as goal
