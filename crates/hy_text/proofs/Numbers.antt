@@ -10,16 +10,11 @@ use Rattle.std.proofs.lemmas.Slice.Eq.{bytes_eq-Decides}
 use Rattle.std.proofs.lemmas.Str.Parse.{numerals_by_value, tells_digits}
 use Rattle.hy_base.specs.declared.fault.Cause.{Cause}
 use Rattle.hy_base.specs.declared.fault.Cause.TheVariants.{BadNumber}
+use Rattle.hy_text.proofs.Bools.{and_both}
 use Rattle.hy_text.specs.Slot.{number_of}
 
 abbrev judged : Bool → ℕ → Result ℕ Cause
 judged t number = cond t (Ok number) (Err BadNumber)
-
-and_parts : (a b c : Bool) → (a && b && c) ≡ true → (a ≡ true) × (b ≡ true) × (c ≡ true)
-and_parts true true true e = (refl, refl, refl)
-and_parts true true false e = absurd cc
-and_parts true false c e = absurd cc
-and_parts false b c e = absurd cc
 
 judged_ok : (t : Bool) (number n : ℕ) → judged t number ≡ Ok n → (t ≡ true) × (number ≡ n)
 judged_ok true number n e = (refl, cc)
@@ -36,11 +31,12 @@ unfolding number_of
 number_takes low high word number e =
     let v : ℕ = digits_value 10 word in
     let j = judged_ok (leb low v && leb v high && bytes_eq word (decimal v)) v number e in
-    let p = and_parts (leb low v) (leb v high) (bytes_eq word (decimal v)) j.0 in
+    let both = and_both (leb low v && leb v high) (bytes_eq word (decimal v)) j.0 in
+    let range = and_both (leb low v) (leb v high) both.0 in
     subst (IsNumberIn low high word) j.1 (record {
-      low_end = leb-true _ _ p.0;
-      high_end = leb-true _ _ p.1;
-      printed = (bytes_eq-Decides word (decimal v)).0 p.2;
+      low_end = leb-true _ _ range.0;
+      high_end = leb-true _ _ range.1;
+      printed = (bytes_eq-Decides word (decimal v)).0 both.1;
     })
 
 -- what a reader finds of the digits of such a word

@@ -1,5 +1,5 @@
 -- Values: digits in lower-case hexadecimal, and what the slot of a value says of a word.
-use Rattle.std.proofs.Common.{◌≡◌, ℕ, zero, suc, ◌+◌, ◌-◌, ◌*◌, ◌/◌, ◌%◌, ◌^◌, ◌<◌, ◌≤◌, max, ◌⊎◌, Bool, true, false, not, cond, ◌&&◌, ◌||◌, eqb, leb, ltb, List, [], ◌∷◌, length, get_or, take, drop, Result, Ok, Err, refl, sym, ap, subst, ◌∙◌, arith, inl, inr}
+use Rattle.std.proofs.Common.{◌≡◌, ℕ, zero, suc, ◌+◌, ◌-◌, ◌*◌, ◌/◌, ◌%◌, ◌<◌, ◌≤◌, max, ◌⊎◌, Bool, true, false, not, cond, ◌&&◌, eqb, leb, ltb, List, [], ◌∷◌, length, get_or, take, drop, Result, Ok, Err, refl, sym, ap, subst, ◌∙◌, arith, inl, inr}
 use Rattle.std.specs.List.{list_all}
 use Rattle.std.specs.Str.{bytes_eq}
 use Rattle.std.proofs.lemmas.List.{take_all, length-drop, get_or_past}
@@ -9,12 +9,13 @@ use Rattle.std.proofs.lemmas.Slice.Eq.{bytes_eq-Decides}
 use Rattle.hex.specs.Hex.{lower_digits, encode_with, encode_lower, IsBytes}
 use Rattle.hy_base.specs.declared.fault.Cause.{Cause}
 use Rattle.hy_base.specs.declared.fault.Cause.TheVariants.{BadHex, LongValue}
+use Rattle.hy_text.proofs.Bools.{and_both, and_true}
 use Rattle.hy_text.specs.Slot.{is_lower_digit, is_hex_text, hex_value, hex_bytes, value_word, value_of}
 
 -- ---- one digit
 
 -- the digit of a number below sixteen, as the table has it
-abbrev glyph : ℕ → ℕ
+abbrev pub glyph : ℕ → ℕ
 glyph n = cond (ltb n 10) (48 + n) (87 + n)
 
 abbrev table_is : ℕ → Bool
@@ -23,10 +24,6 @@ table_is n = eqb (get_or lower_digits n 0) (glyph n)
 abbrev table_below : ℕ → Bool
 table_below zero = true
 table_below (suc n) = table_is n && table_below n
-
-and_both : (a b : Bool) → (a && b) ≡ true → (a ≡ true) × (b ≡ true)
-and_both true b e = (refl, e)
-and_both false b e = absurd cc
 
 table_at : (n k : ℕ) → table_below n ≡ true → k < n → get_or lower_digits k 0 ≡ glyph k
 table_at zero k h lt = absurd (omega arith)
@@ -37,7 +34,7 @@ table_at (suc n) k h lt =
       | inr top ↦ let e : k ≡ n = omega arith in rw e (eqb-true _ _ parts.0)
     ]
 
-glyph_is : (n : ℕ) → n < 16 → get_or lower_digits n 0 ≡ glyph n
+pub glyph_is : (n : ℕ) → n < 16 → get_or lower_digits n 0 ≡ glyph n
 glyph_is n lt = table_at 16 n refl lt
 
 digit_of_glyph : (n : ℕ) → n < 16 → (is_lower_digit (glyph n) ≡ true) × (hex_value (glyph n) ≡ n)
@@ -115,10 +112,6 @@ record ArePairs (word : List ℕ) : Type 0 where
   even : length word % 2 ≡ 0
   digits : list_all is_lower_digit word ≡ true
   bytes : IsBytes (hex_bytes word)
-
-and_true : (a b : Bool) → a ≡ true → b ≡ true → (a && b) ≡ true
-and_true true b e f = f
-and_true false b e f = absurd cc
 
 pair_printed : (high low : ℕ) → high ≡ get_or lower_digits ((hex_value high * 16 + hex_value low) / 16) 0 → low ≡ get_or lower_digits ((hex_value high * 16 + hex_value low) % 16) 0
     → (is_lower_digit high ≡ true) × (is_lower_digit low ≡ true)

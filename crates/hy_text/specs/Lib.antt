@@ -2,3 +2,4 @@ pub mod Line
 pub mod Seen
 pub mod Slot
 pub mod Gives
+pub mod Cause

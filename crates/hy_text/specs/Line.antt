@@ -1,6 +1,6 @@
 -- The lines of a text and the words of a line, from both sides: what a writer joins, and what a reader splits.
-use Rattle.std.specs.Prelude.{ℕ, ◌==◌, Bool, true, false, List, [], ◌∷◌, ◌++◌, Option, Some, None, if◌then◌else◌, length}
-use Rattle.std.specs.List.{flat_map, join_with_byte, slice_split}
+use Rattle.std.specs.Prelude.{ℕ, ◌==◌, Bool, true, false, not, ◌&&◌, List, [], ◌∷◌, ◌++◌, Option, Some, None, if◌then◌else◌, length}
+use Rattle.std.specs.List.{flat_map, join_with_byte, list_all, slice_split}
 
 -- a line of a text: its words, and whether a line feed ends it
 pub record Line : Type 0 where
@@ -20,6 +20,19 @@ text_of rows = flat_map line_text rows
 -- a row as a line that ends
 abbrev pub ended_line : List (List ℕ) → Line
 ended_line words = record { words = words; ended = true }
+
+-- a byte that may stand in a word: neither a line feed nor a space
+abbrev pub is_word_byte : ℕ → Bool
+is_word_byte b = not (b == 10) && not (b == 32)
+
+-- a word that a reader finds again in its line
+abbrev pub is_word : List ℕ → Bool
+is_word word = list_all is_word_byte word
+
+-- a row that a reader finds again in its text: one word or more
+abbrev pub is_row : List (List ℕ) → Bool
+is_row [] = false
+is_row (word ∷ row) = is_word word && list_all is_word row
 
 -- ---- the reader's side
 

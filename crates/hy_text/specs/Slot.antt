@@ -7,13 +7,14 @@ use Rattle.std.specs.Str.{bytes_eq}
 use Rattle.std.specs.Str.Parse.{digits_value}
 use Rattle.hex.specs.Hex.{encode_lower}
 use Rattle.hy_base.specs.declared.fault.Cause.{Cause}
-use Rattle.hy_base.specs.declared.fault.Cause.TheVariants.{BadWord, BadNumber, BadHex, LongValue, Extra}
+use Rattle.hy_record.specs.Key.{is_key}
+use Rattle.hy_base.specs.declared.fault.Cause.TheVariants.{BadWord, BadNumber, BadHex, BadKey, LongValue, Extra}
 
--- the next slot, where this one took its word; else the cause of this one
+-- the next reader, where this one answered a value; else the fault of this one
 infixl 10 ◌>>=◌
-abbrev pub ◌>>=◌ : {A B : Type 0} → Result A Cause → (A → Result B Cause) → Result B Cause
+abbrev pub ◌>>=◌ : {A B E : Type 0} → Result A E → (A → Result B E) → Result B E
 (Ok x) >>= f = f x
-(Err cause) >>= f = Err cause
+(Err e) >>= f = Err e
 
 -- the slot of a keyword
 abbrev pub keyword : List ℕ → List ℕ → Result (Unit {0}) Cause
@@ -62,3 +63,9 @@ unfoldable pub value_of : ℕ → List ℕ → Result (List ℕ) Cause
 value_of limit word =
     let value = hex_bytes word in
     if bytes_eq word (value_word value) then (if nat_le (length value) limit then Ok value else Err LongValue) else Err BadHex
+
+-- ---- keys
+
+-- the slot of a key, which is printed as its bytes
+abbrev pub key_word : List ℕ → Result (List ℕ) Cause
+key_word word = if is_key word then Ok word else Err BadKey

@@ -1,14 +1,21 @@
 //! What every text of the store stands on: lines, words, the slots of a line, and the printed forms of numbers and values.
 #![tactic(auto)]
 
+mod cause;
 mod error;
+mod key;
 mod line;
 mod number;
 mod value;
 mod word;
 
+pub use cause::cause_name;
 pub use error::LineError;
+pub use key::{push_key, read_key};
 pub use line::{Line, Lines};
-pub use number::{push_number, read_number};
+pub use number::{push_number, read_number, read_u32};
 pub use value::{push_value, read_value};
-pub use word::Words;
+pub use word::{Words, read_keyword};
+
+#[cfg(test)]
+mod tests;

@@ -31,7 +31,13 @@ impl<'a> Line<'a> {
             None if text.is_empty() => None,
             None => {
                 let words = Words::split(text, b' ');
-                Some((Line { words, ended: false }, b""))
+                Some((
+                    Line {
+                        words,
+                        ended: false,
+                    },
+                    b"",
+                ))
             }
         }
     }

@@ -1,6 +1,6 @@
 //! Numbers in a text: decimal digits without leading zeros.
 
-ghost use Rattle.std.specs.Prelude.{◌≡◌, ◌+◌, ◌*◌, ◌^◌, ◌<◌, ◌++◌, ◌↔◌, IsTrue, OnOk, OnErr, length, slice_index};
+ghost use Rattle.std.specs.Prelude.{◌≡◌, ◌+◌, ◌*◌, ◌^◌, ◌<◌, ◌≤◌, ◌++◌, ◌↔◌, IfOk, IsTrue, OnOk, OnErr, length, slice_index};
 ghost use Rattle.std.specs.Char.{digit_value};
 ghost use Rattle.std.specs.Fmt.{decimal};
 ghost use Rattle.std.specs.Option.{SomeIff};
@@ -45,12 +45,22 @@ fn is_plain(word: &[u8]) -> bool
 
 /// The number from `low` to `high` that the word prints.
 pub fn read_number(word: &[u8], low: u64, high: u64) -> Result<u64, Cause>
-    ensures { result ≡ number_of low high word.now }
+    ensures value { result ≡ number_of low high word.now }
+    ensures range { IfOk result (λ number. (low ≤ number) × (number ≤ high)) }
 {
     match digits_number(word) {
         Some(number) if is_plain(word) && low <= number && number <= high => Ok(number),
         _ => Err(Cause::BadNumber),
     }
+}
+
+/// The number from `low` to `high` that the word prints, where both have 32 bits.
+pub fn read_u32(word: &[u8], low: u32, high: u32) -> Result<u32, Cause>
+    ensures value { result ≡ number_of low high word.now }
+    ensures range { IfOk result (λ number. (low ≤ number) × (number ≤ high)) }
+{
+    let number = read_number(word, u64::from(low), u64::from(high))?;
+    Ok(number as u32)
 }
 
 /// Appends the printed form of the number.

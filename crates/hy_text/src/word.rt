@@ -2,7 +2,7 @@
 
 ghost use Rattle.std.specs.Prelude.{◌≡◌, ◌==◌, [], ◌∷◌, MatchOption, position};
 ghost use Rattle.hy_text.specs.Line.{pieces_at, first_word, later_words};
-ghost use Rattle.hy_text.specs.Slot.{end_of};
+ghost use Rattle.hy_text.specs.Slot.{keyword, end_of};
 
 use hy_base::Cause;
 use std::marker::Model;
@@ -81,5 +81,16 @@ impl<'a> Words<'a> {
             None => Ok(()),
             Some(_) => Err(Cause::Extra),
         }
+    }
+}
+
+/// Whether the word is the keyword that is due.
+pub fn read_keyword(word: &[u8], due: &[u8]) -> Result<(), Cause>
+    ensures { result ≡ keyword due.now word.now }
+{
+    if word == due {
+        Ok(())
+    } else {
+        Err(Cause::BadWord)
     }
 }

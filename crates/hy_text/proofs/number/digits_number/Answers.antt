@@ -1,6 +1,5 @@
-use Rattle.std.proofs.Common.{◌≡◌, ◌+◌, ◌*◌, ◌<◌, ◌≤◌, length, take, get_or, sym, arith}
-use Rattle.std.specs.Char.{digit_value}
-use Rattle.std.specs.Str.Parse.{digits_value, AllDigits}
+use Rattle.std.proofs.Common.{◌≡◌, ◌+◌, take, arith}
+use Rattle.std.specs.Str.Parse.{digits_value}
 use Rattle.std.proofs.lemmas.List.{take_all}
 use Rattle.std.proofs.lemmas.Int.Digits.{digits_more, digits_value_more}
 use Rattle.std.proofs.lemmas.Str.Parse.{digits_value-take-le}
@@ -27,8 +26,8 @@ returns c =
 pub returns-in_err-number : goal.returns-in_err-number
 returns-in_err-number c =
     rw c.from_residual.ensures (λ has.
-      let i = c.loop-byte.byte-index in
-      let word = c.args.word.now in
-      let more = digits_value_more 10 word i c.loop-byte-test.true in
-      let below = digits_value-take-le 10 word (i + 1) (omega arith) in
-      c.in_err-number.ensures (AllDigits-at word i has.0 c.loop-byte-test.true, omega (arith, more, below, has.1, c.loop-byte.invariant.value)))
+    let i = c.loop-byte.byte-index in
+    let word = c.args.word.now in
+    let more = digits_value_more 10 word i c.loop-byte-test.true in
+    let below = digits_value-take-le 10 word (i + 1) (omega arith) in
+    c.in_err-number.ensures (AllDigits-at word i has.0 c.loop-byte-test.true, omega (arith, more, below, has.1, c.loop-byte.invariant.value)))

@@ -1,10 +1,10 @@
-use Rattle.std.proofs.Common.{◌≡◌, ◌<◌, ◌≤◌, sym, ◌∙◌, ap, arith, Ok}
+use Rattle.std.proofs.Common.{◌≡◌, sym, arith}
 use Rattle.std.specs.Str.Parse.{digits_value}
 use Rattle.hy_text.proofs.Numbers.{HasDigits, number_of-digits, number_of-refused}
 use Rattle.hy_text.proofs.number.read_number.Goals as goal
 
-pub returns-in-Some : goal.returns-in-Some
-returns-in-Some c =
+pub returns-in-Some-clause-value : goal.returns-in-Some-clause-value
+returns-in-Some-clause-value c =
     let read = c.in-Some.ensures in
     let plain = c.is_plain.ensures.0 c.if-is_plain.true in
     let value : c.in-Some.number ≡ digits_value 10 c.args.word.now = read.1 in
@@ -17,14 +17,14 @@ returns-in-Some c =
     } in
     rw value (sym (number_of-digits c.args.low c.args.high c.args.word.now read.0.1 has))
 
-pub returns-in_default : goal.returns-in_default
-returns-in_default c = sym (number_of-refused c.args.low c.args.high c.args.word.now c.ranges.high.fits (λ has. omega (arith, has.high_end, c.in-Some.ensures.1)))
+pub returns-in_default-clause-value : goal.returns-in_default-clause-value
+returns-in_default-clause-value c = sym (number_of-refused c.args.low c.args.high c.args.word.now c.ranges.high.fits (λ has. omega (arith, has.high_end, c.in-Some.ensures.1)))
 
-pub returns-in_default-2 : goal.returns-in_default-2
-returns-in_default-2 c = sym (number_of-refused c.args.low c.args.high c.args.word.now c.ranges.high.fits (λ has. omega (arith, has.low_end, c.in-Some.ensures.1)))
+pub returns-in_default-2-clause-value : goal.returns-in_default-2-clause-value
+returns-in_default-2-clause-value c = sym (number_of-refused c.args.low c.args.high c.args.word.now c.ranges.high.fits (λ has. omega (arith, has.low_end, c.in-Some.ensures.1)))
 
-pub returns-in_default-3 : goal.returns-in_default-3
-returns-in_default-3 c = sym (number_of-refused c.args.low c.args.high c.args.word.now c.ranges.high.fits (λ has. let fine = c.is_plain.ensures.1 (has.filled, has.plain) in cc (fine, c.if-is_plain.false)))
+pub returns-in_default-3-clause-value : goal.returns-in_default-3-clause-value
+returns-in_default-3-clause-value c = sym (number_of-refused c.args.low c.args.high c.args.word.now c.ranges.high.fits (λ has. let fine = c.is_plain.ensures.1 (has.filled, has.plain) in cc (fine, c.if-is_plain.false)))
 
-pub returns-in_default-4 : goal.returns-in_default-4
-returns-in_default-4 c = sym (number_of-refused c.args.low c.args.high c.args.word.now c.ranges.high.fits (λ has. c.in_default.ensures (has.digits, omega (arith, has.high_end, c.ranges.high.fits))))
+pub returns-in_default-4-clause-value : goal.returns-in_default-4-clause-value
+returns-in_default-4-clause-value c = sym (number_of-refused c.args.low c.args.high c.args.word.now c.ranges.high.fits (λ has. c.in_default.ensures (has.digits, omega (arith, has.high_end, c.ranges.high.fits))))

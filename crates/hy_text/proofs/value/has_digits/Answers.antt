@@ -1,5 +1,4 @@
 use Rattle.std.proofs.Common.{refl}
-use Rattle.std.specs.List.{list_all}
 use Rattle.std.proofs.lemmas.List.Folds.{list_all_more}
 use Rattle.hy_text.specs.Slot.{is_lower_digit}
 use Rattle.hy_text.proofs.Values.{max_below}

@@ -1,6 +1,5 @@
-use Rattle.std.proofs.Common.{◌≡◌, ◌+◌, ◌*◌, ◌<◌, ◌≤◌, [], ◌∷◌, ◌++◌, length, get_or, drop, sym, ◌∙◌, ap, arith, append_assoc, append-nil}
+use Rattle.std.proofs.Common.{sym, ◌∙◌, append_assoc, append-nil}
 use Rattle.std.proofs.lemmas.Bool.{ltb-true}
-use Rattle.hy_text.specs.Slot.{hex_value, hex_bytes}
 use Rattle.hy_text.proofs.Values.{later_is, front_parts, hex_bytes-front, hex_bytes-short}
 use Rattle.hy_text.proofs.value.paired_bytes.Goals as goal
 

@@ -1,6 +1,6 @@
-use Rattle.std.proofs.Common.{◌≡◌, [], ◌∷◌, true, Ok, sym, ◌∙◌, ap, arith}
+use Rattle.std.proofs.Common.{◌≡◌, [], ◌∷◌, sym, ◌∙◌, ap, arith}
 use Rattle.std.proofs.lemmas.Slice.Eq.{bytes_eq-Decides}
-use Rattle.hy_text.specs.Slot.{value_of, is_hex_text}
+use Rattle.hy_text.specs.Slot.{value_of}
 use Rattle.hy_text.proofs.Values.{value_of-dash, value_of-other, value_of-value, value_of-long}
 use Rattle.hy_text.proofs.value.read_value.Goals as goal
 

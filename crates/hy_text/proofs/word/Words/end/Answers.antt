@@ -1,8 +1,5 @@
-use Rattle.std.proofs.Common.{sym, ◌∙◌, ap}
-use Rattle.hy_text.specs.Line.{pieces_left}
-use Rattle.hy_text.specs.Slot.{end_of}
+use Rattle.std.proofs.Common.{sym}
 use Rattle.hy_text.proofs.Pieces.{end_of-pieces_at}
-use Rattle.std.specs.Option.{option_copied}
 use Rattle.hy_text.proofs.word.Words.end.Goals as goal
 
 pub returns-in-Some : goal.returns-in-Some
