@@ -8,6 +8,7 @@ use Rattle.hy_record.specs.declared.action.Action.TheVariants as asked
 use Rattle.hy_order.specs.declared.operation.Operation.{Operation}
 use Rattle.hy_order.specs.History.{IsHistory, IsNumberedFrom, is_end_of, is_reply_of}
 use Rattle.hy_order.specs.Linearization.{is_finished, is_finished_reply, returned_before}
+use Rattle.hy_quiet.proofs.Elements.{AllByRecursion-push}
 use Rattle.hy_quiet.specs.declared.event.Event.{Event}
 use Rattle.hy_quiet.specs.declared.event.Event.TheVariants.{Open, Put, Get}
 use Rattle.hy_quiet.specs.Event.{Version, is_joined, version_of}
@@ -26,7 +27,7 @@ pub with_last : (P : List Operation → Type 0) (ops : List Operation) (made : O
 with_last P ops None before after = rw append-nil before
 with_last P ops (Some op) before after = after
 
-IfSome-weaker : {X : Type 0} {P Q : X → Type 0} (made : Option X) → ((x : X) → P x → Q x) → IfSome made P → IfSome made Q
+pub IfSome-weaker : {X : Type 0} {P Q : X → Type 0} (made : Option X) → ((x : X) → P x → Q x) → IfSome made P → IfSome made Q
 IfSome-weaker None weaker h = tt
 IfSome-weaker (Some x) weaker h = weaker x h
 
@@ -81,13 +82,9 @@ operation_of-alone number (Get client key) before = IfSome-cond _ (is_joined bef
   stays = λ step h. le-ltb _ _ (omega (arith, steps_of-positive (Get client key) before));
 })
 
-IsNumberedFrom-push : (number : ℕ) (ops : List Operation) (op : Operation) → IsNumberedFrom number ops → op.number ≡ number + length ops → IsNumberedFrom number (ops ++ op ∷ [])
+pub IsNumberedFrom-push : (number : ℕ) (ops : List Operation) (op : Operation) → IsNumberedFrom number ops → op.number ≡ number + length ops → IsNumberedFrom number (ops ++ op ∷ [])
 IsNumberedFrom-push number [] op numbered next = (omega arith, tt)
 IsNumberedFrom-push number (first ∷ ops) op numbered next = (numbered.0, IsNumberedFrom-push (number + 1) ops op numbered.1 (omega arith))
-
-AllByRecursion-push : {X : Type 0} (P : X → Type 0) (xs : List X) (x : X) → AllByRecursion P xs → P x → AllByRecursion P (xs ++ x ∷ [])
-AllByRecursion-push P [] x all here = (here, tt)
-AllByRecursion-push P (first ∷ xs) x all here = (all.0, AllByRecursion-push P xs x all.1 here)
 
 pub IsHistory-push : (ops : List Operation) (op : Operation) → IsHistory ops → op.number ≡ length ops + 1 → IsTrue (is_end_of op.action op.end) → IsHistory (ops ++ op ∷ [])
 IsHistory-push ops op history next ends = record {
@@ -102,3 +99,11 @@ IsHistory-history_of (event ∷ before) =
     let size : length (history_of before) ≡ length (operations before) = length-reverse (operations before) in
     rw history_of-cons (with_last IsHistory (history_of before) (operation_of (length (operations before) + 1) event before) known
     (IfSome-weaker _ (λ op alone. IsHistory-push (history_of before) op known (cc) alone.ends) (operation_of-alone _ event before)))
+
+-- each operation of a quiet schedule is finished
+pub AllFinished-history_of : (events : List Event) → AllByRecursion (λ op. IsTrue (is_finished op.end)) (history_of events)
+AllFinished-history_of [] = tt
+AllFinished-history_of (event ∷ before) =
+    let known : AllByRecursion (λ op. IsTrue (is_finished op.end)) (history_of before) = AllFinished-history_of before in
+    rw history_of-cons (with_last (AllByRecursion (λ op. IsTrue (is_finished op.end))) (history_of before) (operation_of (length (operations before) + 1) event before) known
+    (IfSome-weaker _ (λ op alone. AllByRecursion-push _ (history_of before) op known alone.finished) (operation_of-alone _ event before)))

@@ -5,4 +5,4 @@ mod event;
 mod law;
 
 pub use event::Event;
-pub use law::quiet_history_is_a_history;
+pub use law::{quiet_history_is_a_history, quiet_orders_are_linearizable};
