@@ -1,5 +1,5 @@
 -- The order of each key of a quiet schedule is a linearization.
-use Rattle.std.proofs.Common.{◌≡◌, ℕ, ◌&&◌, Bool, IsTrue, List, filter, Some, None, Contains, sym, subst}
+use Rattle.std.proofs.Common.{◌≡◌, ℕ, IsTrue, List, filter, Some, None, sym, subst}
 use Rattle.std.proofs.lemmas.Bool.{and_parts, false≢true}
 use Rattle.std.specs.List.{AllByRecursion}
 use Rattle.hy_record.specs.declared.action.Action.{Action}

@@ -1,5 +1,5 @@
 -- Operations numbered one after another, and the list of the numbers of those that pass a test.
-use Rattle.std.proofs.Common.{◌≡◌, ℕ, suc, ◌+◌, ◌<◌, ◌≤◌, ◌==◌, Bool, true, false, cond, IsTrue, nat_eq, List, [], ◌∷◌, length, map, filter, find, Option, Some, Contains, refl, ap, ◌∙◌, arith, eq-eqb, ne_eqb}
+use Rattle.std.proofs.Common.{◌≡◌, ℕ, suc, ◌+◌, ◌<◌, ◌≤◌, ◌==◌, Bool, false, IsTrue, nat_eq, List, [], ◌∷◌, map, filter, Some, Contains, refl, ap, ◌∙◌, arith, eq-eqb, ne_eqb}
 use Rattle.std.proofs.lemmas.Bool.{cond_both, cond-true, cond-false}
 use Rattle.std.specs.List.{AllByRecursion, IsDistinct, cons_option}
 use Rattle.hy_order.specs.declared.operation.Operation.{Operation}
@@ -22,9 +22,10 @@ later_found first ops op above found = cond-false (first.number == op.number) _ 
 -- each operation is the one of its number
 pub each_found : (number : ℕ) (ops : List Operation) → IsNumberedFrom number ops → AllByRecursion (λ op. operation_at ops op.number ≡ Some op) ops
 each_found number [] numbered = tt
-each_found number (first ∷ ops) numbered =
-    (cond-true (first.number == first.number) _ _ (eq-eqb _ _ refl),
-     AllByRecursion-both ops (λ op above found. later_found first ops op (omega arith) found) (numbers-from (number + 1) ops numbered.1) (each_found (number + 1) ops numbered.1))
+each_found number (first ∷ ops) numbered = (
+  cond-true (first.number == first.number) _ _ (eq-eqb _ _ refl),
+  AllByRecursion-both ops (λ op above found. later_found first ops op (omega arith) found) (numbers-from (number + 1) ops numbered.1) (each_found (number + 1) ops numbered.1),
+)
 
 -- operations that are found by their numbers are those that the numbers list
 pub listed-numbers : (history ops : List Operation) → AllByRecursion (λ op. operation_at history op.number ≡ Some op) ops → listed history (numbers ops) ≡ ops
@@ -51,6 +52,7 @@ Contains-later x xs y there = (suc there.0, omega arith, there.2)
 -- the numbers of the operations that pass a test contain the number of each of them
 pub Contains-numbers : (p : Operation → Bool) (ops : List Operation) → AllByRecursion (λ op. IsTrue (p op) → Contains (numbers (filter p ops)) op.number) ops
 Contains-numbers p [] = tt
-Contains-numbers p (first ∷ ops) =
-    (λ passes. rw passes (Contains-first first.number (numbers (filter p ops))),
-     AllByRecursion-weaker ops (λ op there passes. cond_both (p first) (first ∷ filter p ops) (filter p ops) (λ kept. Contains (numbers kept) op.number) (λ _. Contains-later first.number (numbers (filter p ops)) op.number (there passes)) (λ _. there passes)) (Contains-numbers p ops))
+Contains-numbers p (first ∷ ops) = (
+  λ passes. rw passes (Contains-first first.number (numbers (filter p ops))),
+  AllByRecursion-weaker ops (λ op there passes. cond_both (p first) (first ∷ filter p ops) (filter p ops) (λ kept. Contains (numbers kept) op.number) (λ _. Contains-later first.number (numbers (filter p ops)) op.number (there passes)) (λ _. there passes)) (Contains-numbers p ops),
+)

@@ -1,9 +1,8 @@
 -- The operations of a key in a quiet schedule read its register, which holds the value of its current version.
-use Rattle.std.proofs.Common.{◌≡◌, ℕ, ◌+◌, Bool, true, false, ◌&&◌, cond, IsTrue, IsFalse, List, [], ◌∷◌, ◌++◌, length, filter, Option, Some, None, option_map, option_to_list, bytes_eq, refl, ap, subst, ◌∙◌, append-nil}
+use Rattle.std.proofs.Common.{◌≡◌, ℕ, ◌+◌, Bool, true, false, ◌&&◌, cond, IsTrue, IsFalse, List, [], ◌∷◌, ◌++◌, filter, Option, Some, None, option_map, option_to_list, bytes_eq, refl, ap, subst, ◌∙◌, append-nil}
 use Rattle.std.proofs.lemmas.Bool.{cond_both, both_ways}
 use Rattle.std.proofs.lemmas.List.Elements.{filter-append}
 use Rattle.std.specs.Cmp.Lexicographic.{bytes_decides}
-use Rattle.hy_order.specs.declared.operation.End.{End}
 use Rattle.hy_order.specs.declared.operation.End.TheVariants.{Replied}
 use Rattle.hy_order.specs.declared.operation.Operation.{Operation}
 use Rattle.hy_order.specs.Linearization.{is_of_key, register_after, TellsRegister, ReadsRegister}
@@ -11,7 +10,7 @@ use Rattle.hy_quiet.proofs.Histories.{history_of-cons}
 use Rattle.hy_quiet.specs.declared.event.Event.{Event}
 use Rattle.hy_quiet.specs.declared.event.Event.TheVariants.{Open, Put, Get}
 use Rattle.hy_quiet.specs.Event.{Version, Write, is_joined, last_version, puts_of, version_of}
-use Rattle.hy_quiet.specs.Replay.{steps_of, step_count, answer, operation_of, operations, history_of}
+use Rattle.hy_quiet.specs.Replay.{steps_of, step_count, answer, operation_of, history_of}
 
 -- what the register holds after the operations
 abbrev register_of : Option (List ℕ) → List Operation → Option (List ℕ)
