@@ -6,9 +6,10 @@ use Rattle.std.specs.List.{AllByRecursion}
 use mathlib.Core.List.{reverse-cons}
 use Rattle.hy_record.specs.declared.action.Action.TheVariants as asked
 use Rattle.hy_order.specs.declared.operation.Operation.{Operation}
-use Rattle.hy_order.specs.History.{IsHistory, IsNumberedFrom, is_end_of, is_reply_of}
+use Rattle.hy_order.specs.History.{IsHistory, is_end_of, is_reply_of}
 use Rattle.hy_order.specs.Linearization.{is_finished, is_finished_reply, returned_before}
 use Rattle.hy_quiet.proofs.Elements.{AllByRecursion-push}
+use Rattle.hy_quiet.proofs.Numbered.{IsHistory-push}
 use Rattle.hy_quiet.specs.declared.event.Event.{Event}
 use Rattle.hy_quiet.specs.declared.event.Event.TheVariants.{Open, Put, Get}
 use Rattle.hy_quiet.specs.Event.{Version, is_joined, version_of}
@@ -23,11 +24,11 @@ pub history_of-cons : (event : Event) (before : List Event) → history_of (even
 history_of-cons event before = reverse-with_operation _ (operations before)
 
 -- what holds of the operations, and of one more, holds of them with the operation that there may be
-pub with_last : (P : List Operation → Type 0) (ops : List Operation) (made : Option Operation) → P ops → IfSome made (λ op. P (ops ++ op ∷ [])) → P (ops ++ option_to_list made)
+with_last : (P : List Operation → Type 0) (ops : List Operation) (made : Option Operation) → P ops → IfSome made (λ op. P (ops ++ op ∷ [])) → P (ops ++ option_to_list made)
 with_last P ops None before after = rw append-nil before
 with_last P ops (Some op) before after = after
 
-pub IfSome-weaker : {X : Type 0} {P Q : X → Type 0} (made : Option X) → ((x : X) → P x → Q x) → IfSome made P → IfSome made Q
+IfSome-weaker : {X : Type 0} {P Q : X → Type 0} (made : Option X) → ((x : X) → P x → Q x) → IfSome made P → IfSome made Q
 IfSome-weaker None weaker h = tt
 IfSome-weaker (Some x) weaker h = weaker x h
 
@@ -82,28 +83,22 @@ operation_of-alone number (Get client key) before = IfSome-cond _ (is_joined bef
   stays = λ step h. le-ltb _ _ (omega (arith, steps_of-positive (Get client key) before));
 })
 
-pub IsNumberedFrom-push : (number : ℕ) (ops : List Operation) (op : Operation) → IsNumberedFrom number ops → op.number ≡ number + length ops → IsNumberedFrom number (ops ++ op ∷ [])
-IsNumberedFrom-push number [] op numbered next = (omega arith, tt)
-IsNumberedFrom-push number (first ∷ ops) op numbered next = (numbered.0, IsNumberedFrom-push (number + 1) ops op numbered.1 (omega arith))
-
-pub IsHistory-push : (ops : List Operation) (op : Operation) → IsHistory ops → op.number ≡ length ops + 1 → IsTrue (is_end_of op.action op.end) → IsHistory (ops ++ op ∷ [])
-IsHistory-push ops op history next ends = record {
-  numbered = IsNumberedFrom-push 1 ops op history.numbered (omega arith);
-  ends = AllByRecursion-push _ ops op history.ends ends;
-}
+-- a fact of the events and of their operations holds of all, if it holds of none, and stays with each event that has no operation and with each operation that runs alone
+pub along_history : (P : List Event → List Operation → Type 0) → P [] [] → ((event : Event) (before : List Event) → P before (history_of before) → P (event ∷ before) (history_of before)) → ((event : Event) (before : List Event) (op : Operation) → RunsAlone (length (history_of before) + 1) (step_count before) (step_count (event ∷ before)) op → P before (history_of before) → P (event ∷ before) (history_of before ++ op ∷ [])) → (events : List Event) → P events (history_of events)
+along_history P none stays grows [] = none
+along_history P none stays grows (event ∷ before) =
+    let known : P before (history_of before) = along_history P none stays grows before in
+    let number : length (history_of before) ≡ length (operations before) = length-reverse (operations before) in
+    rw history_of-cons (with_last (P (event ∷ before)) (history_of before) _ (stays event before known)
+    (IfSome-weaker _ (λ op alone. grows event before op (rw number alone) known) (operation_of-alone _ event before)))
 
 pub IsHistory-history_of : (events : List Event) → IsHistory (history_of events)
-IsHistory-history_of [] = record { numbered = tt; ends = tt }
-IsHistory-history_of (event ∷ before) =
-    let known : IsHistory (history_of before) = IsHistory-history_of before in
-    let size : length (history_of before) ≡ length (operations before) = length-reverse (operations before) in
-    rw history_of-cons (with_last IsHistory (history_of before) (operation_of (length (operations before) + 1) event before) known
-    (IfSome-weaker _ (λ op alone. IsHistory-push (history_of before) op known (cc) alone.ends) (operation_of-alone _ event before)))
+IsHistory-history_of =
+    along_history (λ _ ops. IsHistory ops) (record { numbered = tt; ends = tt }) (λ _ _ known. known)
+    (λ _ before op alone known. IsHistory-push (history_of before) op known alone.numbered alone.ends)
 
 -- each operation of a quiet schedule is finished
 pub AllFinished-history_of : (events : List Event) → AllByRecursion (λ op. IsTrue (is_finished op.end)) (history_of events)
-AllFinished-history_of [] = tt
-AllFinished-history_of (event ∷ before) =
-    let known : AllByRecursion (λ op. IsTrue (is_finished op.end)) (history_of before) = AllFinished-history_of before in
-    rw history_of-cons (with_last (AllByRecursion (λ op. IsTrue (is_finished op.end))) (history_of before) (operation_of (length (operations before) + 1) event before) known
-    (IfSome-weaker _ (λ op alone. AllByRecursion-push _ (history_of before) op known alone.finished) (operation_of-alone _ event before)))
+AllFinished-history_of =
+    along_history (λ _ ops. AllByRecursion (λ op. IsTrue (is_finished op.end)) ops) tt (λ _ _ known. known)
+    (λ _ before op alone known. AllByRecursion-push _ (history_of before) op known alone.finished)

@@ -1,11 +1,21 @@
 -- Operations numbered one after another, and the list of the numbers of those that pass a test.
-use Rattle.std.proofs.Common.{◌≡◌, ℕ, suc, ◌+◌, ◌<◌, ◌≤◌, ◌==◌, Bool, false, IsTrue, nat_eq, List, [], ◌∷◌, map, filter, Some, Contains, refl, ap, ◌∙◌, arith, eq-eqb, ne_eqb}
+use Rattle.std.proofs.Common.{◌≡◌, ℕ, suc, ◌+◌, ◌<◌, ◌≤◌, ◌==◌, Bool, false, IsTrue, nat_eq, List, [], ◌∷◌, ◌++◌, length, map, filter, Some, Contains, refl, ap, ◌∙◌, arith, eq-eqb, ne_eqb}
 use Rattle.std.proofs.lemmas.Bool.{cond_both, cond-true, cond-false}
 use Rattle.std.specs.List.{AllByRecursion, IsDistinct, cons_option}
 use Rattle.hy_order.specs.declared.operation.Operation.{Operation}
-use Rattle.hy_order.specs.History.{IsNumberedFrom}
+use Rattle.hy_order.specs.History.{IsNumberedFrom, IsHistory, is_end_of}
 use Rattle.hy_order.specs.Linearization.{operation_at, listed}
-use Rattle.hy_quiet.proofs.Elements.{AllByRecursion-weaker, AllByRecursion-both, AllByRecursion-filter, AllByRecursion-map}
+use Rattle.hy_quiet.proofs.Elements.{AllByRecursion-push, AllByRecursion-weaker, AllByRecursion-both, AllByRecursion-filter, AllByRecursion-map}
+
+pub IsNumberedFrom-push : (number : ℕ) (ops : List Operation) (op : Operation) → IsNumberedFrom number ops → op.number ≡ number + length ops → IsNumberedFrom number (ops ++ op ∷ [])
+IsNumberedFrom-push number [] op numbered next = (omega arith, tt)
+IsNumberedFrom-push number (first ∷ ops) op numbered next = (numbered.0, IsNumberedFrom-push (number + 1) ops op numbered.1 (omega arith))
+
+pub IsHistory-push : (ops : List Operation) (op : Operation) → IsHistory ops → op.number ≡ length ops + 1 → IsTrue (is_end_of op.action op.end) → IsHistory (ops ++ op ∷ [])
+IsHistory-push ops op history next ends = record {
+  numbered = IsNumberedFrom-push 1 ops op history.numbered (omega arith);
+  ends = AllByRecursion-push _ ops op history.ends ends;
+}
 
 -- the numbers of the operations
 abbrev pub numbers : List Operation → List ℕ

@@ -1,13 +1,13 @@
 -- Operations of a quiet schedule, in the order of their numbers, respect real time.
-use Rattle.std.proofs.Common.{◌≡◌, ℕ, ◌+◌, ◌≤◌, Bool, false, List, [], ◌∷◌, ◌++◌, length, filter, arith}
+use Rattle.std.proofs.Common.{◌≡◌, ℕ, ◌≤◌, Bool, false, List, [], ◌∷◌, ◌++◌, filter, arith}
 use Rattle.std.proofs.lemmas.Bool.{cond_both}
 use Rattle.std.specs.List.{AllByRecursion}
 use Rattle.hy_order.specs.declared.operation.Operation.{Operation}
 use Rattle.hy_order.specs.Linearization.{RespectsRealTime, returned_before}
 use Rattle.hy_quiet.proofs.Elements.{AllByRecursion-push, AllByRecursion-weaker, AllByRecursion-filter}
-use Rattle.hy_quiet.proofs.Histories.{RunsAlone, IfSome-weaker, with_last, history_of-cons, operation_of-alone}
+use Rattle.hy_quiet.proofs.Histories.{RunsAlone, along_history}
 use Rattle.hy_quiet.specs.declared.event.Event.{Event}
-use Rattle.hy_quiet.specs.Replay.{step_count, operation_of, operations, history_of}
+use Rattle.hy_quiet.specs.Replay.{step_count, history_of}
 
 RespectsRealTime-push : (ops : List Operation) (op : Operation) → RespectsRealTime ops → AllByRecursion (λ earlier. returned_before earlier.invoked op.end ≡ false) ops → RespectsRealTime (ops ++ op ∷ [])
 RespectsRealTime-push [] op ordered stays = (tt, tt)
@@ -39,12 +39,10 @@ IsOrderedTo-push number start stop ops op alone known = record {
 }
 
 IsOrderedTo-history_of : (events : List Event) → IsOrderedTo (step_count events) (history_of events)
-IsOrderedTo-history_of [] = record { ordered = tt; invoked = tt }
-IsOrderedTo-history_of (event ∷ before) =
-    let known : IsOrderedTo (step_count before) (history_of before) = IsOrderedTo-history_of before in
-    rw history_of-cons (with_last (IsOrderedTo (step_count (event ∷ before))) (history_of before) (operation_of (length (operations before) + 1) event before)
-    (IsOrderedTo-later (step_count before) _ (history_of before) (omega arith) known)
-    (IfSome-weaker _ (λ op alone. IsOrderedTo-push _ (step_count before) _ (history_of before) op alone known) (operation_of-alone _ event before)))
+IsOrderedTo-history_of =
+    along_history (λ events ops. IsOrderedTo (step_count events) ops) (record { ordered = tt; invoked = tt })
+    (λ event before known. IsOrderedTo-later (step_count before) _ (history_of before) (omega arith) known)
+    (λ event before op alone known. IsOrderedTo-push _ (step_count before) _ (history_of before) op alone known)
 
 pub RespectsRealTime-history_of : (events : List Event) → RespectsRealTime (history_of events)
 RespectsRealTime-history_of events = (IsOrderedTo-history_of events).ordered

@@ -45,7 +45,7 @@ filter-last : (P : List Operation → Type 0) (p : Operation → Bool) (ops : Li
 filter-last P p ops op passes fails =
     rw filter-append (cond_both (p op) (op ∷ []) [] (λ last. P (filter p ops ++ last)) passes (λ other. rw append-nil (fails other)))
 
--- the operation of a joined client is one that passes the test or not
+-- one more operation, of a client that has joined or not, which passes the test or not
 module _ (p : Operation → Bool) (ops : List Operation) (op : Operation) where
   ReadsTo-after_put : (puts : List Write) (put : Write) (same joined : Bool) → p op ≡ same → register_after op.action (value_of (last_version puts)) ≡ Some put.value → TellsRegister (value_of (last_version puts)) op.end → ReadsTo (last_version puts) (filter p ops) → ReadsTo (last_version (cond (same && joined) (put ∷ puts) puts)) (filter p (ops ++ option_to_list (cond joined (Some op) None)))
   ReadsTo-after_put puts put true true test left tells known =
@@ -64,7 +64,7 @@ answer-tells : (at : ℕ) (version : Option Version) → TellsRegister (value_of
 answer-tells at None = refl
 answer-tells at (Some version) = refl
 
--- what a get of the same key answers
+-- a get of the same key answers what its register holds
 answer-tells_same : (key other : List ℕ) (at : ℕ) (before : List Event) → IsTrue (bytes_eq other key) → TellsRegister (value_of (version_of key before)) (Replied at (answer (version_of other before)))
 answer-tells_same key other at before same =
     subst (λ of. TellsRegister (value_of (version_of of before)) (Replied at (answer (version_of other before)))) ((bytes_decides other key).0 same) (answer-tells at (version_of other before))
