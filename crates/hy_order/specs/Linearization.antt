@@ -9,6 +9,8 @@ use Rattle.hy_record.specs.declared.action.Reply.TheVariants as told
 use Rattle.hy_order.specs.declared.operation.End.{End}
 use Rattle.hy_order.specs.declared.operation.End.TheVariants.{Replied, Pending}
 use Rattle.hy_order.specs.declared.operation.Operation.{Operation}
+use Rattle.hy_order.specs.declared.order.Order.{Order}
+use Rattle.hy_order.specs.declared.report.Report.{Report}
 use Rattle.hy_order.specs.History.{key_of_action}
 
 -- the operation is one of the key
@@ -92,3 +94,11 @@ pub record IsLinearization (history : List Operation) (key order : List ℕ) : T
   pub distinct : IsDistinct nat_eq order
   pub real_time : RespectsRealTime (listed history order)
   pub reads : ReadsRegister None (listed history order)
+
+-- the order is a linearization of its key
+abbrev pub IsLinearized : List Operation → Order → Type 0
+IsLinearized history order = IsLinearization history order.key order.ops
+
+-- each order of the report is a linearization of its key
+abbrev pub IsReportLinearizable : Report → Type 0
+IsReportLinearizable report = AllByRecursion (IsLinearized report.history) report.orders

@@ -2,5 +2,7 @@
 #![tactic(auto)]
 
 mod event;
+mod law;
 
 pub use event::Event;
+pub use law::{quiet_history_is_a_history, quiet_orders_are_linearizable};

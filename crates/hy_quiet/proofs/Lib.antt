@@ -1,0 +1,6 @@
+pub mod Elements
+pub mod Histories
+pub mod Numbered
+pub mod RealTime
+pub mod Registers
+pub mod Linearized
