@@ -1,7 +1,10 @@
 //! The events of a quiet schedule.
 
+ghost use Rattle.std.specs.Prelude.{◌≡◌};
+
 use hy_base::Blob;
 use hy_record::Key;
+use std::marker::Model;
 
 /// An event: a client joins, or runs an operation to its end.
 #[derive(Debug, Drop, PartialEq, Eq)]
@@ -12,4 +15,42 @@ pub enum Event {
     Put { client: u32, key: Key, value: Blob },
     /// The client asks for the value under the key.
     Get { client: u32, key: Key },
+}
+
+/// The events of a schedule, in order.
+#[derive(Debug, Drop)]
+pub struct Events {
+    events: Vec<Event>,
+}
+
+impl Model for Events {
+    ghost use Rattle.std.specs.Prelude.{List};
+    ghost use Rattle.hy_quiet.specs.declared.event.Event.{Event};
+
+    ghost Value = { List Event };
+
+    ghost view = { λ list. list.events.items };
+}
+
+impl Events {
+    /// The list of these events.
+    pub fn of(events: Vec<Event>) -> Events
+        ensures { result ≡ events.items }
+    {
+        Events { events }
+    }
+
+    /// The events, in order.
+    pub fn items(&self) -> &[Event]
+        ensures { result.now ≡ self.now }
+    {
+        &self.events
+    }
+
+    /// The events, in the memory that they have.
+    pub fn into_items(self) -> Vec<Event>
+        ensures { result.items ≡ self }
+    {
+        self.events
+    }
 }

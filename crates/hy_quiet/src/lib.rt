@@ -4,5 +4,5 @@
 mod event;
 mod law;
 
-pub use event::Event;
+pub use event::{Event, Events};
 pub use law::{quiet_history_is_a_history, quiet_orders_are_linearizable};

@@ -1,3 +1,4 @@
+pub use Rattle.hex.specs.Hex
 pub mod Line
 pub mod Seen
 pub mod Slot
