@@ -1,6 +1,6 @@
 -- When an order of the operations of a key is a linearization of a register.
 use Rattle.std.specs.Prelude.{◌≡◌, ℕ, ◌==◌, Bool, true, false, ◌&&◌, IsTrue, nat_lt, nat_eq, List, [], ◌∷◌, Option, Some, None, Contains}
-use Rattle.std.specs.List.{AllByRecursion, IsDistinct, find, filter_map}
+use Rattle.std.specs.List.{AllByRecursion, IsDistinct, find, filter_map, list_any}
 use Rattle.std.specs.Str.{bytes_eq}
 use Rattle.hy_record.specs.declared.action.Action.{Action}
 use Rattle.hy_record.specs.declared.action.Action.TheVariants as asked
@@ -99,6 +99,18 @@ pub record IsLinearization (history : List Operation) (key order : List ℕ) : T
 abbrev pub IsLinearized : List Operation → Order → Type 0
 IsLinearized history order = IsLinearization history order.key order.ops
 
--- each order of the report is a linearization of its key
-abbrev pub IsReportLinearizable : Report → Type 0
-IsReportLinearizable report = AllByRecursion (IsLinearized report.history) report.orders
+-- a put, a get or a delete, which acts on the register of its key
+abbrev pub acts_on_register : Action → Bool
+acts_on_register (asked.Put key value) = true
+acts_on_register (asked.Get key) = true
+acts_on_register (asked.Delete key) = true
+acts_on_register (asked.Collect key) = false
+
+-- the key has an order among these
+abbrev pub has_order : List Order → List ℕ → Bool
+has_order orders key = list_any (λ order. bytes_eq order.key key) orders
+
+-- each put, get and delete of the report has an order of its key, and each order is a linearization of its key
+pub record IsReportLinearizable (report : Report) : Type 0 where
+  pub keys : AllByRecursion (λ op. IsTrue (acts_on_register op.action) → IsTrue (has_order report.orders (key_of_action op.action))) report.history
+  pub orders : AllByRecursion (IsLinearized report.history) report.orders

@@ -3,4 +3,5 @@ pub mod Histories
 pub mod Numbered
 pub mod RealTime
 pub mod Registers
+pub mod Ordered
 pub mod Linearized

@@ -11,6 +11,7 @@ use Rattle.hy_order.specs.Linearization.{is_of_key, is_finished, may_be_listed, 
 use Rattle.hy_quiet.proofs.Elements.{AllByRecursion-weaker, AllByRecursion-each, AllByRecursion-map, AllByRecursion-filter, AllByRecursion-both, AllByRecursion-passes}
 use Rattle.hy_quiet.proofs.Histories.{IsHistory-history_of, AllFinished-history_of}
 use Rattle.hy_quiet.proofs.Numbered.{numbers, each_found, listed-numbers, IsDistinct-numbers, Contains-numbers}
+use Rattle.hy_quiet.proofs.Ordered.{has_order-quiet_report}
 use Rattle.hy_quiet.proofs.RealTime.{RespectsRealTime-history_of, RespectsRealTime-filter}
 use Rattle.hy_quiet.proofs.Registers.{ReadsRegister-history_of}
 use Rattle.hy_quiet.specs.declared.event.Event.{Event}
@@ -48,8 +49,10 @@ module _ (history : List Operation) (key : List ℕ) (numbered : IsNumberedFrom 
     reads = subst (ReadsRegister None) (sym listed-of_key) reads;
   }
 
--- each order of the report of a quiet schedule is a linearization of its key
+-- each order of the report of a quiet schedule is a linearization of its key, and each operation's key has one
 pub IsReportLinearizable-quiet_report : (events : List Event) → IsReportLinearizable (quiet_report events)
-IsReportLinearizable-quiet_report events =
-    AllByRecursion-map (IsLinearized (history_of events)) (order_of events) (keys_of events) (AllByRecursion-each (keys_of events) (λ key.
-    IsLinearization-of_key (history_of events) key (IsHistory-history_of events).numbered (AllFinished-history_of events) (RespectsRealTime-history_of events) (ReadsRegister-history_of key events)))
+IsReportLinearizable-quiet_report events = record {
+  keys = AllByRecursion-weaker (history_of events) (λ op ordered _. ordered) (has_order-quiet_report events);
+  orders = AllByRecursion-map (IsLinearized (history_of events)) (order_of events) (keys_of events) (AllByRecursion-each (keys_of events) (λ key.
+    IsLinearization-of_key (history_of events) key (IsHistory-history_of events).numbered (AllFinished-history_of events) (RespectsRealTime-history_of events) (ReadsRegister-history_of key events)));
+}
