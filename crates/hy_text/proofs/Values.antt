@@ -49,10 +49,6 @@ pub hex_bytes-pair : (high low : ℕ) (digits : List ℕ) → hex_bytes (high �
 unfolding hex_bytes
 hex_bytes-pair high low digits = refl
 
--- the greater of two numbers is below a limit where both are
-pub max_below : (a b limit : ℕ) → ltb (max a b) limit ≡ (ltb a limit && ltb b limit)
-max_below a b limit = grind (arith, nat_tests)
-
 pub all_parts : (high low : ℕ) (digits : List ℕ) → list_all is_lower_digit (high ∷ low ∷ digits) ≡ true → (is_lower_digit high ≡ true) × (is_lower_digit low ≡ true) × (list_all is_lower_digit digits ≡ true)
 all_parts high low digits all =
     let one = and_both (is_lower_digit high) (is_lower_digit low && list_all is_lower_digit digits) all in
