@@ -1,5 +1,5 @@
 -- Values: digits in lower-case hexadecimal, and what the slot of a value says of a word.
-use Rattle.std.proofs.Common.{◌≡◌, ℕ, zero, suc, ◌+◌, ◌-◌, ◌*◌, ◌/◌, ◌%◌, ◌<◌, ◌≤◌, max, ◌⊎◌, Bool, true, false, not, cond, ◌&&◌, eqb, leb, ltb, List, [], ◌∷◌, length, get_or, take, drop, Result, Ok, Err, refl, sym, ap, subst, ◌∙◌, arith, inl, inr}
+use Rattle.std.proofs.Common.{◌≡◌, ℕ, zero, suc, ◌+◌, ◌-◌, ◌*◌, ◌/◌, ◌%◌, ◌<◌, ◌≤◌, ◌⊎◌, Bool, true, false, not, cond, ◌&&◌, eqb, leb, ltb, List, [], ◌∷◌, length, get_or, take, drop, Result, Ok, Err, refl, sym, ap, subst, ◌∙◌, arith, inl, inr}
 use Rattle.std.specs.List.{list_all}
 use Rattle.std.specs.Str.{bytes_eq}
 use Rattle.std.proofs.lemmas.List.{take_all, length-drop, get_or_past}
@@ -48,10 +48,6 @@ glyph_of_digit d is = grind (arith, nat_tests)
 pub hex_bytes-pair : (high low : ℕ) (digits : List ℕ) → hex_bytes (high ∷ low ∷ digits) ≡ (hex_value high * 16 + hex_value low) ∷ hex_bytes digits
 unfolding hex_bytes
 hex_bytes-pair high low digits = refl
-
--- the greater of two numbers is below a limit where both are
-pub max_below : (a b limit : ℕ) → ltb (max a b) limit ≡ (ltb a limit && ltb b limit)
-max_below a b limit = grind (arith, nat_tests)
 
 pub all_parts : (high low : ℕ) (digits : List ℕ) → list_all is_lower_digit (high ∷ low ∷ digits) ≡ true → (is_lower_digit high ≡ true) × (is_lower_digit low ≡ true) × (list_all is_lower_digit digits ≡ true)
 all_parts high low digits all =

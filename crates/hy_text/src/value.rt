@@ -1,6 +1,6 @@
 //! Values in a text: two digits of lower-case hexadecimal for each byte, and a dash for the empty value.
 
-ghost use Rattle.std.specs.Prelude.{◌≡◌, ◌<◌, ◌++◌, IfOk, OnOk, OnErr, true, nat_lt};
+ghost use Rattle.std.specs.Prelude.{◌≡◌, ◌<◌, ◌++◌, IfOk, OnOk, OnErr, true};
 ghost use Rattle.std.specs.List.{list_all};
 ghost use Rattle.hy_text.specs.Slot.{is_lower_digit, is_hex_text, hex_value, hex_bytes, value_of, value_word};
 ghost use Rattle.hy_text.specs.Gives.{Gives};
@@ -9,16 +9,11 @@ use crate::error::LineError;
 use hy_base::{Blob, Cause, NoMemory};
 use std::alloc::{AllocError, Global};
 
-/// The value of a digit in lower-case hexadecimal; another byte has one beyond 15.
-fn digit_value(byte: u8) -> u8
-    ensures digit { nat_lt result 16 ≡ is_lower_digit byte }
-    ensures value { result < 16 → result ≡ hex_value byte }
+/// Whether the byte is a digit in lower-case hexadecimal.
+fn is_digit(byte: u8) -> bool
+    ensures { result ≡ is_lower_digit byte }
 {
-    match byte {
-        b'0'..=b'9' => byte - b'0',
-        b'a'..=b'f' => byte - b'a' + 10,
-        _ => 255,
-    }
+    matches!(byte, b'0'..=b'9' | b'a'..=b'f')
 }
 
 /// Whether the word has digits in lower-case hexadecimal alone.
@@ -27,11 +22,11 @@ fn digit_value(byte: u8) -> u8
 fn has_digits(word: &[u8]) -> bool
     ensures { result ≡ list_all is_lower_digit word.now }
 {
-    let mut worst = 0u8;
+    let mut all = true;
     for byte in word {
-        worst = worst.max(digit_value(*byte));
+        all &= is_digit(*byte);
     }
-    worst < 16
+    all
 }
 
 /// Whether the word is one pair of digits or more.
@@ -39,6 +34,15 @@ fn is_hex(word: &[u8]) -> bool
     ensures { result ≡ is_hex_text word.now }
 {
     !word.is_empty() && word.len() % 2 == 0 && has_digits(word)
+}
+
+/// The value of a digit, taken without a branch: a letter is 64 or above.
+fn digit_value(digit: u8) -> u8
+    requires { is_lower_digit digit ≡ true }
+    ensures value { result ≡ hex_value digit }
+    ensures small { result < 16 }
+{
+    digit % 16 + digit / 64 * 9
 }
 
 /// The bytes of pairs of digits.

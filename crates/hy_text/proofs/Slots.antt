@@ -1,0 +1,45 @@
+-- Chains of slots: what each link says where the whole chain takes a row.
+use Rattle.std.proofs.Common.{◌≡◌, ℕ, ◌<◌, Bool, true, false, cond, List, [], ◌∷◌, length, Result, Ok, Err, refl, ap, arith}
+use Rattle.std.specs.Str.{bytes_eq}
+use Rattle.std.proofs.lemmas.Slice.Eq.{bytes_eq-Decides}
+use Rattle.hy_base.specs.declared.fault.Cause.{Cause}
+use Rattle.hy_base.specs.declared.fault.Cause.TheVariants.{BadWord}
+use Rattle.hy_text.specs.Line.{first_word, later_words}
+use Rattle.hy_text.specs.Slot.{◌>>=◌, keyword, end_of}
+
+-- the value of the first reader, where both answered one
+pub bind_ok : {A B E : Type 0} (read : Result A E) (next : A → Result B E) (y : B) → (read >>= next) ≡ Ok y → (x : A) × (read ≡ Ok x) × (next x ≡ Ok y)
+bind_ok (Ok x) next y e = (x, refl, e)
+bind_ok (Err fault) next y e = absurd cc
+
+abbrev answer : {A E : Type 0} → A → Result A E
+answer x = Ok x
+
+-- two answers that are the same have the same value
+pub ok_is : {A E : Type 0} (x y : A) → answer {E = E} x ≡ answer y → x ≡ y
+ok_is x y e = cc
+
+abbrev due_or_bad : Bool → Result (Unit {0}) Cause
+due_or_bad t = cond t (Ok tt) (Err BadWord)
+
+due_taken : (t : Bool) (u : Unit {0}) → due_or_bad t ≡ Ok u → t ≡ true
+due_taken true u e = refl
+due_taken false u e = absurd cc
+
+-- what the slot of a keyword takes is the keyword
+pub keyword_takes : (due word : List ℕ) (u : Unit {0}) → keyword due word ≡ Ok u → word ≡ due
+keyword_takes due word u e = (bytes_eq-Decides word due).0 (due_taken (bytes_eq word due) u e)
+
+-- the keyword is taken
+pub keyword_again : (due : List ℕ) → keyword due due ≡ Ok tt
+keyword_again due = rw ((bytes_eq-Decides due due).1 refl) refl
+
+-- where no word is left, none is left
+pub end_takes : (words : List (List ℕ)) (u : Unit {0}) → end_of words ≡ Ok u → words ≡ []
+end_takes [] u e = refl
+end_takes (word ∷ words) u e = absurd cc
+
+-- a word that is not empty stands in front of those behind it
+pub words_from_first : (words : List (List ℕ)) (word : List ℕ) → first_word words ≡ word → 0 < length word → words ≡ word ∷ later_words words
+words_from_first [] word e some = absurd (omega (arith, ap length e))
+words_from_first (first ∷ words) word e some = ap (λ (w : List ℕ). w ∷ words) e
