@@ -1,2 +1,4 @@
 pub mod Event
 pub mod Replay
+pub mod KeyState
+pub mod KeyStates

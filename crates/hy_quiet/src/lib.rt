@@ -2,5 +2,7 @@
 #![tactic(auto)]
 
 mod event;
+mod key_state;
+mod key_states;
 
 pub use event::Event;
