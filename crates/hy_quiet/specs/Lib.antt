@@ -2,3 +2,4 @@ pub mod Event
 pub mod Replay
 pub mod KeyState
 pub mod KeyStates
+pub mod Run

@@ -4,5 +4,7 @@
 mod event;
 mod key_state;
 mod key_states;
+mod run;
 
 pub use event::Event;
+pub use run::replay;
