@@ -5,3 +5,8 @@ pub mod RealTime
 pub mod Registers
 pub mod Ordered
 pub mod Linearized
+pub mod Counts
+pub mod EntryLemmas
+pub mod Growth
+pub mod RunSteps
+pub mod Reports

@@ -2,7 +2,11 @@
 #![tactic(auto)]
 
 mod event;
+mod key_state;
+mod key_states;
 mod law;
+mod run;
 
 pub use event::{Event, Events};
 pub use law::{quiet_history_is_a_history, quiet_orders_are_linearizable};
+pub use run::replay;

@@ -1,0 +1,21 @@
+use Rattle.std.proofs.Common.{arith, ◌∙◌}
+use Rattle.hy_quiet.proofs.run.Run.put.Goals as goal
+use Rattle.hy_quiet.proofs.RunSteps.{IsSmall, IsSmall-HasRoom, StandsFor-put}
+
+pub overflow_add-self : goal.overflow_add-self
+overflow_add-self c = let small : IsSmall c.args.self.now = IsSmall-HasRoom c.args.self.now c.requires in omega (arith, small.steps)
+
+pub next_number-number-requires : goal.next_number-number-requires
+next_number-number-requires c = let small : IsSmall c.args.self.now = IsSmall-HasRoom c.args.self.now c.requires in omega (arith, small.operations)
+
+pub put-requires : goal.put-requires
+put-requires c = let small : IsSmall c.args.self.now = IsSmall-HasRoom c.args.self.now c.requires in omega (arith, small.puts c.args.key)
+
+pub add-requires : goal.add-requires
+add-requires c = let small : IsSmall c.args.self.now = IsSmall-HasRoom c.args.self.now c.requires in omega (arith, small.steps)
+
+pub returns : goal.returns
+returns c = λ before stands.
+    let added = c.in_ok-add.ensures in
+    StandsFor-put _ _ _ _ _ _ _ before stands c.if-client-self.false c.next_number-number.ensures c.in_ok-stamp.ensures.stamp
+    added.steps added.joined added.operations (added.states ∙ c.in_ok-stamp.ensures.states)
