@@ -8,3 +8,6 @@ mod run;
 
 pub use event::Event;
 pub use run::replay;
+
+#[cfg(test)]
+mod tests;
