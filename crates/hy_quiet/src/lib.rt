@@ -10,3 +10,6 @@ mod run;
 pub use event::{Event, Events};
 pub use law::{quiet_history_is_a_history, quiet_orders_are_linearizable};
 pub use run::replay;
+
+#[cfg(test)]
+mod tests;

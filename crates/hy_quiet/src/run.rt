@@ -1,8 +1,6 @@
 //! The replay of a quiet schedule, event by event.
 
-ghost use Rattle.std.specs.Prelude.{◌≡◌, ◌+◌, ◌<◌, ◌≤◌, ◌^◌, List, [], ◌∷◌, ◌++◌, Option, length, reverse, is_some, IfOk, OnOk, if◌then◌else◌};
-ghost use Rattle.hy_base.specs.declared.limits.TheConstants.{MAX_EVENTS};
-ghost use Rattle.hy_order.specs.declared.operation.Operation.{Operation};
+ghost use Rattle.std.specs.Prelude.{◌≡◌, ◌≤◌, Option, length, reverse, is_some, IfOk, if◌then◌else◌};
 ghost use Rattle.hy_quiet.specs.Event.{Version};
 ghost use Rattle.hy_quiet.specs.Replay.{quiet_report, answer};
 
@@ -45,7 +43,7 @@ pub fn replay(alloc: Global, events: Vec<Event>) -> Result<Report, NoMemory>
 }
 
 impl Run {
-    ghost use Rattle.std.specs.Prelude.{◌≡◌, ◌+◌, ◌<◌, ◌^◌, List, [], ◌∷◌, ◌++◌, length, IfOk, OnOk};
+    ghost use Rattle.std.specs.Prelude.{◌≡◌, ◌+◌, ◌<◌, ◌≤◌, ◌^◌, ◌↔◌, List, [], ◌∷◌, ◌++◌, length, IsTrue, IfOk, OnOk};
     ghost use Rattle.hy_quiet.specs.Replay.{quiet_report};
     ghost use Rattle.hy_quiet.specs.Run.{StandsFor, HasRoom};
 
@@ -90,7 +88,7 @@ impl Run {
         requires { HasRoom self.old }
         ensures { OnOk result ((before : List Event) → StandsFor self.old before → StandsFor self.new (Event.Put client key value ∷ before)) }
     {
-        if client > self.joined {
+        if !self.has_joined(client) {
             self.steps += 1;
             return Ok(());
         }
@@ -106,7 +104,7 @@ impl Run {
         requires { HasRoom self.old }
         ensures { OnOk result ((before : List Event) → StandsFor self.old before → StandsFor self.new (Event.Get client key ∷ before)) }
     {
-        if client > self.joined {
+        if !self.has_joined(client) {
             self.steps += 1;
             return Ok(());
         }
@@ -115,6 +113,13 @@ impl Run {
         let steps = steps_of_get(&reply);
         self.add(number, client, Action::Get { key }, steps, reply)?;
         Ok(())
+    }
+
+    /// Whether so many clients joined.
+    fn has_joined(&self, client: u32) -> bool
+        ensures { IsTrue result ↔ (client ≤ self.now.joined) }
+    {
+        client <= self.joined
     }
 
     /// The number of the next operation.

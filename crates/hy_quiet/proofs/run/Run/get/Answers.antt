@@ -15,5 +15,5 @@ pub returns : goal.returns
 returns c = λ before stands.
     let added = c.in_ok-add.ensures in
     let replied = c.in_ok-reply.ensures in
-    StandsFor-get _ _ _ _ _ _ _ before stands c.if-client-self.false c.next_number-number.ensures replied.reply
+    StandsFor-get _ _ _ _ _ _ _ before stands (c.has_joined.ensures.0 c.if-not-has_joined.false) c.next_number-number.ensures replied.reply
     (c.steps_of_get-steps.ensures.value _ replied.reply) added.steps added.joined added.operations (added.states ∙ replied.states)

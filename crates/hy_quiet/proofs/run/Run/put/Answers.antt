@@ -17,5 +17,5 @@ add-requires c = let small : IsSmall c.args.self.now = IsSmall-HasRoom c.args.se
 pub returns : goal.returns
 returns c = λ before stands.
     let added = c.in_ok-add.ensures in
-    StandsFor-put _ _ _ _ _ _ _ before stands c.if-client-self.false c.next_number-number.ensures c.in_ok-stamp.ensures.stamp
+    StandsFor-put _ _ _ _ _ _ _ before stands (c.has_joined.ensures.0 c.if-not-has_joined.false) c.next_number-number.ensures c.in_ok-stamp.ensures.stamp
     added.steps added.joined added.operations (added.states ∙ c.in_ok-stamp.ensures.states)
