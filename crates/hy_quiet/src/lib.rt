@@ -3,6 +3,8 @@
 
 mod event;
 mod law;
+mod schedule;
 
 pub use event::{Event, Events};
 pub use law::{quiet_history_is_a_history, quiet_orders_are_linearizable};
+pub use schedule::read_schedule;
