@@ -5,3 +5,4 @@ pub mod RealTime
 pub mod Registers
 pub mod Ordered
 pub mod Linearized
+pub mod ScheduleLoop
