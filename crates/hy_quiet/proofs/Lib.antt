@@ -10,3 +10,4 @@ pub mod EntryLemmas
 pub mod Growth
 pub mod RunSteps
 pub mod Reports
+pub mod ScheduleLoop

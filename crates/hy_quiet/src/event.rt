@@ -17,6 +17,17 @@ pub enum Event {
     Get { client: u32, key: Key },
 }
 
+impl Event {
+    ghost use Rattle.hy_quiet.specs.Event.{is_open};
+
+    /// Whether a client joins.
+    pub(crate) fn is_open(&self) -> bool
+        ensures { result ≡ is_open self.now }
+    {
+        matches!(self, Event::Open)
+    }
+}
+
 /// The events of a schedule, in order.
 #[derive(Debug, Drop)]
 pub struct Events {

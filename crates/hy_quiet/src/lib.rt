@@ -6,10 +6,12 @@ mod key_state;
 mod key_states;
 mod law;
 mod run;
+mod schedule;
 
 pub use event::{Event, Events};
 pub use law::{quiet_history_is_a_history, quiet_orders_are_linearizable};
 pub use run::replay;
+pub use schedule::read_schedule;
 
 #[cfg(test)]
 mod tests;
