@@ -6,3 +6,5 @@ pub mod Registers
 pub mod Ordered
 pub mod Linearized
 pub mod ScheduleLoop
+pub mod EventRows
+pub mod ScheduleLaws

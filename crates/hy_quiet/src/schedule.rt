@@ -1,10 +1,16 @@
 //! The text of a quiet schedule: a first line, and a line for each event.
 
-ghost use Rattle.std.specs.Prelude.{◌≡◌, ◌+◌, ◌<◌, ◌≤◌, IfOk};
+ghost use Rattle.std.specs.Prelude.{◌≡◌, ◌+◌, ◌<◌, ◌≤◌, IfOk, List};
+ghost use Rattle.hy_base.specs.declared.fault.TextError.TheVariants as errors;
+ghost use Rattle.hy_base.specs.declared.fault.TextFault.{TextFault};
 ghost use Rattle.hy_text.specs.Gives.{Gives, GivesText, at_line};
 ghost use Rattle.hy_text.specs.Line.{first_word, later_words};
 ghost use Rattle.hy_text.specs.Seen.{line_seen};
+ghost use Rattle.hy_quiet.specs.declared.event.Event.{Event};
 ghost use Rattle.hy_quiet.specs.Schedule.{
+  IsQuiet,
+  IsSchedule,
+  schedule_text,
   action_of,
   do_of,
   end_of_line,
@@ -30,6 +36,12 @@ use std::alloc::Global;
 
 /// The events of the schedule that the text is.
 pub fn read_schedule(alloc: Global, text: &[u8]) -> Result<Events, TextError>
+    // What is read is the text of a schedule.
+    ensures found { IfOk result (λ events. IsSchedule events × (text.now ≡ schedule_text events)) }
+    // The text of a schedule is read, unless memory runs out.
+    ensures only { (events : List Event) → IsSchedule events → text.now ≡ schedule_text events → GivesText result (Ok events) }
+    // The text of a schedule has no fault.
+    ensures refused { (fault : TextFault) → result ≡ Err (errors.Fault fault) → ¬ IsQuiet text.now }
     // Which fault it is: the first of the text.
     ensures exact { GivesText result (schedule_of text.now) }
 {
@@ -90,12 +102,7 @@ fn read_event_line(
 
 /// The event of a line behind so many event lines and so many clients that joined.
 #[tactic(auto, unfolding(crate::specs::Schedule::event_at))]
-fn read_event(
-    alloc: Global,
-    count: u32,
-    joined: u32,
-    line: &mut Line,
-) -> Result<Event, LineError>
+fn read_event(alloc: Global, count: u32, joined: u32, line: &mut Line) -> Result<Event, LineError>
     requires { joined ≤ MAX_SESSIONS }
     ensures gives { Gives result (event_at count joined (line_seen line.old)) }
     ensures room { IfOk result (λ event. (count < MAX_EVENTS) × (joined_with joined event ≤ MAX_SESSIONS)) }
