@@ -7,4 +7,4 @@ mod schedule;
 
 pub use event::{Event, Events};
 pub use law::{quiet_history_is_a_history, quiet_orders_are_linearizable};
-pub use schedule::read_schedule;
+pub use schedule::{read_schedule, write_schedule};

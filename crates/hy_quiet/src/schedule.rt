@@ -1,10 +1,11 @@
 //! The text of a quiet schedule: a first line, and a line for each event.
 
-ghost use Rattle.std.specs.Prelude.{◌≡◌, ◌+◌, ◌<◌, ◌≤◌, IfOk, List};
+ghost use Rattle.std.specs.Prelude.{◌≡◌, ◌+◌, ◌<◌, ◌≤◌, ◌++◌, IfOk, OnOk, List, codes, map};
+ghost use Rattle.std.specs.Fmt.{decimal};
 ghost use Rattle.hy_base.specs.declared.fault.TextError.TheVariants as errors;
 ghost use Rattle.hy_base.specs.declared.fault.TextFault.{TextFault};
 ghost use Rattle.hy_text.specs.Gives.{Gives, GivesText, at_line};
-ghost use Rattle.hy_text.specs.Line.{first_word, later_words};
+ghost use Rattle.hy_text.specs.Line.{first_word, later_words, line_text, text_of};
 ghost use Rattle.hy_text.specs.Seen.{line_seen};
 ghost use Rattle.hy_quiet.specs.declared.event.Event.{Event};
 ghost use Rattle.hy_quiet.specs.Schedule.{
@@ -16,6 +17,7 @@ ghost use Rattle.hy_quiet.specs.Schedule.{
   end_of_line,
   event_at,
   event_of,
+  event_row,
   events_from,
   get_of,
   header_at,
@@ -30,8 +32,13 @@ ghost use Rattle.hy_quiet.specs.Schedule.{
 };
 
 use crate::event::{Event, Events};
-use hy_base::{Cause, MAX_EVENTS, MAX_SESSIONS, MAX_TEXT_VALUE, TextError, TextFault};
-use hy_text::{Line, LineError, Lines, Words, read_key, read_u32, read_value};
+use hy_base::{
+    Blob, Cause, MAX_EVENTS, MAX_SESSIONS, MAX_TEXT_VALUE, NoMemory, TextError, TextFault,
+};
+use hy_record::Key;
+use hy_text::{
+    Line, LineError, Lines, Words, push_key, push_number, push_value, read_key, read_u32, read_value,
+};
 use std::alloc::Global;
 
 /// The events of the schedule that the text is.
@@ -46,6 +53,58 @@ pub fn read_schedule(alloc: Global, text: &[u8]) -> Result<Events, TextError>
     ensures exact { GivesText result (schedule_of text.now) }
 {
     read_text(alloc, text)
+}
+
+/// The text of the schedule.
+pub fn write_schedule(alloc: Global, events: &Events) -> Result<Blob, NoMemory>
+    ensures { IfOk result (λ text. text ≡ schedule_text events.now) }
+{
+    let mut out = Vec::new(alloc);
+    out.extend_from_slice(b"hybris 1 f 0 k 1 liars -\n")?;
+    push_events(&mut out, events.items())?;
+    Ok(Blob::of(out))
+}
+
+/// Appends the lines of the events.
+fn push_events(out: &mut Vec<u8>, events: &[Event]) -> Result<(), NoMemory>
+    ensures { OnOk result (out.new.items ≡ out.old.items ++ text_of (map event_row events.now)) }
+{
+    for event in events {
+        push_event(out, event)?;
+    }
+    Ok(())
+}
+
+/// Appends the line of the event.
+fn push_event(out: &mut Vec<u8>, event: &Event) -> Result<(), NoMemory>
+    ensures { OnOk result (out.new.items ≡ out.old.items ++ line_text (event_row event.now)) }
+{
+    match event {
+        Event::Open => out.extend_from_slice(b"open")?,
+        Event::Put { client, key, value } => {
+            push_action(out, *client, b" put ", key)?;
+            out.push(b' ')?;
+            push_value(out, value.bytes())?;
+        }
+        Event::Get { client, key } => push_action(out, *client, b" get ", key)?,
+    }
+    out.push(b'\n')?;
+    Ok(())
+}
+
+/// Appends the words that the line of an operation has up to its key.
+fn push_action(
+    out: &mut Vec<u8>,
+    client: u32,
+    keyword: &[u8],
+    key: &Key,
+) -> Result<(), NoMemory>
+    ensures { OnOk result (out.new.items ≡ out.old.items ++ codes "do " ++ decimal client ++ keyword.now ++ key.now) }
+{
+    out.extend_from_slice(b"do ")?;
+    push_number(out, client.into())?;
+    out.extend_from_slice(keyword)?;
+    push_key(out, key)
 }
 
 /// The events of the text, or its first fault.
