@@ -37,7 +37,8 @@ use hy_base::{
 };
 use hy_record::Key;
 use hy_text::{
-    Line, LineError, Lines, Words, push_key, push_number, push_value, read_key, read_u32, read_value,
+    Line, LineError, Lines, Words, push_key, push_number, push_value, read_key, read_u32,
+    read_value,
 };
 use std::alloc::Global;
 
@@ -93,12 +94,7 @@ fn push_event(out: &mut Vec<u8>, event: &Event) -> Result<(), NoMemory>
 }
 
 /// Appends the words that the line of an operation has up to its key.
-fn push_action(
-    out: &mut Vec<u8>,
-    client: u32,
-    keyword: &[u8],
-    key: &Key,
-) -> Result<(), NoMemory>
+fn push_action(out: &mut Vec<u8>, client: u32, keyword: &[u8], key: &Key) -> Result<(), NoMemory>
     ensures { OnOk result (out.new.items ≡ out.old.items ++ codes "do " ++ decimal client ++ keyword.now ++ key.now) }
 {
     out.extend_from_slice(b"do ")?;
@@ -301,3 +297,6 @@ fn read_get(client: u32, words: &mut Words) -> Result<Event, Cause>
     words.end()?;
     Ok(Event::Get { client, key })
 }
+
+#[cfg(test)]
+mod tests;
