@@ -11,3 +11,5 @@ pub mod Growth
 pub mod RunSteps
 pub mod Reports
 pub mod ScheduleLoop
+pub mod EventRows
+pub mod ScheduleLaws

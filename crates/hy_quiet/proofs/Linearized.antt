@@ -54,5 +54,5 @@ pub IsReportLinearizable-quiet_report : (events : List Event) → IsReportLinear
 IsReportLinearizable-quiet_report events = record {
   keys = AllByRecursion-weaker (history_of events) (λ op ordered _. ordered) (has_order-quiet_report events);
   orders = AllByRecursion-map (IsLinearized (history_of events)) (order_of events) (keys_of events) (AllByRecursion-each (keys_of events) (λ key.
-    IsLinearization-of_key (history_of events) key (IsHistory-history_of events).numbered (AllFinished-history_of events) (RespectsRealTime-history_of events) (ReadsRegister-history_of key events)));
+      IsLinearization-of_key (history_of events) key (IsHistory-history_of events).numbered (AllFinished-history_of events) (RespectsRealTime-history_of events) (ReadsRegister-history_of key events)));
 }

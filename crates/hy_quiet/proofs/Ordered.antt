@@ -66,7 +66,8 @@ has_key-sorted_keys : (ops : List Operation) → AllByRecursion (λ op. has_key 
 has_key-sorted_keys [] = tt
 has_key-sorted_keys (op ∷ ops) = (
   has_key-insert_key (key_of_action op.action) (sorted_keys (map (λ op. key_of_action op.action) ops)),
-  AllByRecursion-weaker ops (λ other there. has_key-after_insert (key_of_action op.action) (key_of_action other.action) _ there) (has_key-sorted_keys ops))
+  AllByRecursion-weaker ops (λ other there. has_key-after_insert (key_of_action op.action) (key_of_action other.action) _ there) (has_key-sorted_keys ops),
+)
 
 AllByRecursion-reverse : {X : Type 0} (P : X → Type 0) (xs : List X) → AllByRecursion P xs → AllByRecursion P (reverse xs)
 AllByRecursion-reverse P [] all = tt

@@ -124,10 +124,10 @@ unfoldable pub event_at : ℕ → ℕ → Line → Result Event Cause
 event_at count joined line =
     if nat_le MAX_EVENTS count then Err TooManyLines
     else
-        event_of line.words >>= λ event.
-        room_for joined event >>= λ _.
-        end_of_line line >>= λ _.
-        Ok event
+    event_of line.words >>= λ event.
+    room_for joined event >>= λ _.
+    end_of_line line >>= λ _.
+    Ok event
 
 -- how many clients joined, with this event
 abbrev pub joined_with : ℕ → Event → ℕ

@@ -11,7 +11,7 @@ mod schedule;
 pub use event::{Event, Events};
 pub use law::{quiet_history_is_a_history, quiet_orders_are_linearizable};
 pub use run::replay;
-pub use schedule::read_schedule;
+pub use schedule::{read_schedule, write_schedule};
 
 #[cfg(test)]
 mod tests;

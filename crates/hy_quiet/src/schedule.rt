@@ -1,15 +1,23 @@
 //! The text of a quiet schedule: a first line, and a line for each event.
 
-ghost use Rattle.std.specs.Prelude.{◌≡◌, ◌+◌, ◌<◌, ◌≤◌, IfOk};
+ghost use Rattle.std.specs.Prelude.{◌≡◌, ◌+◌, ◌<◌, ◌≤◌, ◌++◌, IfOk, OnOk, List, codes, map};
+ghost use Rattle.std.specs.Fmt.{decimal};
+ghost use Rattle.hy_base.specs.declared.fault.TextError.TheVariants as errors;
+ghost use Rattle.hy_base.specs.declared.fault.TextFault.{TextFault};
 ghost use Rattle.hy_text.specs.Gives.{Gives, GivesText, at_line};
-ghost use Rattle.hy_text.specs.Line.{first_word, later_words};
+ghost use Rattle.hy_text.specs.Line.{first_word, later_words, line_text, text_of};
 ghost use Rattle.hy_text.specs.Seen.{line_seen};
+ghost use Rattle.hy_quiet.specs.declared.event.Event.{Event};
 ghost use Rattle.hy_quiet.specs.Schedule.{
+  IsQuiet,
+  IsSchedule,
+  schedule_text,
   action_of,
   do_of,
   end_of_line,
   event_at,
   event_of,
+  event_row,
   events_from,
   get_of,
   header_at,
@@ -24,16 +32,75 @@ ghost use Rattle.hy_quiet.specs.Schedule.{
 };
 
 use crate::event::{Event, Events};
-use hy_base::{Cause, MAX_EVENTS, MAX_SESSIONS, MAX_TEXT_VALUE, TextError, TextFault};
-use hy_text::{Line, LineError, Lines, Words, read_key, read_u32, read_value};
+use hy_base::{
+    Blob, Cause, MAX_EVENTS, MAX_SESSIONS, MAX_TEXT_VALUE, NoMemory, TextError, TextFault,
+};
+use hy_record::Key;
+use hy_text::{
+    Line, LineError, Lines, Words, push_key, push_number, push_value, read_key, read_u32,
+    read_value,
+};
 use std::alloc::Global;
 
 /// The events of the schedule that the text is.
 pub fn read_schedule(alloc: Global, text: &[u8]) -> Result<Events, TextError>
+    // What is read is the text of a schedule.
+    ensures found { IfOk result (λ events. IsSchedule events × (text.now ≡ schedule_text events)) }
+    // The text of a schedule is read, unless memory runs out.
+    ensures only { (events : List Event) → IsSchedule events → text.now ≡ schedule_text events → GivesText result (Ok events) }
+    // The text of a schedule has no fault.
+    ensures refused { (fault : TextFault) → result ≡ Err (errors.Fault fault) → ¬ IsQuiet text.now }
     // Which fault it is: the first of the text.
     ensures exact { GivesText result (schedule_of text.now) }
 {
     read_text(alloc, text)
+}
+
+/// The text of the schedule.
+pub fn write_schedule(alloc: Global, events: &Events) -> Result<Blob, NoMemory>
+    ensures { IfOk result (λ text. text ≡ schedule_text events.now) }
+{
+    let mut out = Vec::new(alloc);
+    out.extend_from_slice(b"hybris 1 f 0 k 1 liars -\n")?;
+    push_events(&mut out, events.items())?;
+    Ok(Blob::of(out))
+}
+
+/// Appends the lines of the events.
+fn push_events(out: &mut Vec<u8>, events: &[Event]) -> Result<(), NoMemory>
+    ensures { OnOk result (out.new.items ≡ out.old.items ++ text_of (map event_row events.now)) }
+{
+    for event in events {
+        push_event(out, event)?;
+    }
+    Ok(())
+}
+
+/// Appends the line of the event.
+fn push_event(out: &mut Vec<u8>, event: &Event) -> Result<(), NoMemory>
+    ensures { OnOk result (out.new.items ≡ out.old.items ++ line_text (event_row event.now)) }
+{
+    match event {
+        Event::Open => out.extend_from_slice(b"open")?,
+        Event::Put { client, key, value } => {
+            push_action(out, *client, b" put ", key)?;
+            out.push(b' ')?;
+            push_value(out, value.bytes())?;
+        }
+        Event::Get { client, key } => push_action(out, *client, b" get ", key)?,
+    }
+    out.push(b'\n')?;
+    Ok(())
+}
+
+/// Appends the words that the line of an operation has up to its key.
+fn push_action(out: &mut Vec<u8>, client: u32, keyword: &[u8], key: &Key) -> Result<(), NoMemory>
+    ensures { OnOk result (out.new.items ≡ out.old.items ++ codes "do " ++ decimal client ++ keyword.now ++ key.now) }
+{
+    out.extend_from_slice(b"do ")?;
+    push_number(out, client.into())?;
+    out.extend_from_slice(keyword)?;
+    push_key(out, key)
 }
 
 /// The events of the text, or its first fault.
@@ -90,12 +157,7 @@ fn read_event_line(
 
 /// The event of a line behind so many event lines and so many clients that joined.
 #[tactic(auto, unfolding(crate::specs::Schedule::event_at))]
-fn read_event(
-    alloc: Global,
-    count: u32,
-    joined: u32,
-    line: &mut Line,
-) -> Result<Event, LineError>
+fn read_event(alloc: Global, count: u32, joined: u32, line: &mut Line) -> Result<Event, LineError>
     requires { joined ≤ MAX_SESSIONS }
     ensures gives { Gives result (event_at count joined (line_seen line.old)) }
     ensures room { IfOk result (λ event. (count < MAX_EVENTS) × (joined_with joined event ≤ MAX_SESSIONS)) }
@@ -235,3 +297,6 @@ fn read_get(client: u32, words: &mut Words) -> Result<Event, Cause>
     words.end()?;
     Ok(Event::Get { client, key })
 }
+
+#[cfg(test)]
+mod tests;
