@@ -1,0 +1,43 @@
+//! How a run of the program ends.
+
+ghost use Rattle.std.specs.Prelude.{◌≡◌};
+
+use hy_base::TextFault;
+
+/// How a run of the program ends. Each but Done, WriteFault and NoMemory wrote a line that tells it.
+#[derive(Clone, Copy, Debug, PartialEq, Eq)]
+pub enum Status {
+    /// The job was done and its output was written.
+    Done,
+    /// The input is not in the grammar; its first bad line.
+    BadInput(TextFault),
+    /// The words are no command.
+    BadWords,
+    /// The input could not be read.
+    ReadFault,
+    /// The output could not be written: a front of what was due was.
+    WriteFault,
+    /// Memory ran out; nothing was written.
+    NoMemory,
+    /// The input has more than 16,777,216 bytes.
+    TooLong,
+}
+
+impl Status {
+    ghost use Rattle.hy_top.specs.Status.{exit_code};
+
+    /// The exit status of the program.
+    pub fn code(&self) -> u8
+        ensures { result ≡ exit_code self.now }
+    {
+        match self {
+            Status::Done => 0,
+            Status::BadInput(_) => 1,
+            Status::BadWords => 2,
+            Status::ReadFault => 4,
+            Status::WriteFault => 5,
+            Status::NoMemory => 7,
+            Status::TooLong => 8,
+        }
+    }
+}
