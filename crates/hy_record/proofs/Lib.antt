@@ -1,1 +1,7 @@
 mod Keys
+pub mod Hashes
+pub mod Numbers
+pub mod Fields
+pub mod Records
+pub mod Names
+pub mod Order

@@ -1,6 +1,7 @@
 -- Keys: which texts spell one, and what is wrong with the others.
 use Rattle.std.specs.Prelude.{ℕ, Bool, ◌&&◌, ◌||◌, ◌==◌, not, nat_lt, nat_le, List, length, Option, Some, None, Result, Ok, Err, if◌then◌else◌}
 use Rattle.std.specs.List.{list_all, position}
+use Rattle.std.specs.Cmp.Lexicographic.{pointwise}
 use Rattle.hy_base.specs.declared.limits.TheConstants.{MAX_KEY}
 use Rattle.hy_record.specs.declared.key.KeyFault.{KeyFault}
 use Rattle.hy_record.specs.declared.key.KeyFault.TheVariants.{Empty, TooLong, BadByte}
@@ -27,3 +28,7 @@ key_of text =
     if length text == 0 then Err Empty
     else if nat_lt MAX_KEY (length text) then Err (TooLong (length text))
     else with_bytes text (first_bad_byte text)
+
+-- the two are one
+unfoldable pub key_eq : List ℕ → List ℕ → Bool
+key_eq a b = pointwise ◌==◌ a b

@@ -1,4 +1,12 @@
 pub mod Stamp
 pub mod Key
 pub mod HeldKey
+pub mod Shape
+pub mod Hash
+pub mod Record
+pub mod HeldRecord
+pub mod Spelling
+pub mod Reading
+pub mod Name
+pub mod Stamps
 pub mod Clouds

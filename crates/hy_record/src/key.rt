@@ -6,7 +6,7 @@ ghost use Rattle.std.specs.Cmp.{partial_order_from_own_ties};
 ghost use Rattle.std.specs.Cmp.Rules.{comparing};
 ghost use Rattle.std.specs.Cmp.Lexicographic.{pointwise, slice_cmp};
 ghost use Rattle.std.specs.Ordering.{nat_cmp, as_partial_cmp};
-ghost use Rattle.hy_record.specs.Key.{key_of, is_key, is_key_byte, first_bad_byte};
+ghost use Rattle.hy_record.specs.Key.{key_of, key_eq, is_key, is_key_byte, first_bad_byte};
 
 use hy_base::MAX_KEY;
 use std::cmp::Ordering;
@@ -71,6 +71,14 @@ impl Key {
         ensures key { IsTrue (is_key self.now) }
     {
         &self.held[..self.len as usize]
+    }
+
+    /// Whether the two are one.
+    #[tactic(auto, unfolding(crate::specs::Key::key_eq))]
+    pub fn is_same(&self, other: &Key) -> bool
+        ensures { result ≡ key_eq self.now other.now }
+    {
+        *self == *other
     }
 }
 

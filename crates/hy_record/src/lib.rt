@@ -2,12 +2,24 @@
 #![tactic(auto)]
 
 mod action;
+mod hash;
 mod key;
+mod kind;
+mod message;
+mod name;
+mod record;
 mod stamp;
+mod stamps;
 
 pub use action::{Action, Phase, Reply};
+pub use hash::{Hash, sha};
 pub use key::{Key, KeyFault};
+pub use kind::Kind;
+pub use message::{MetaAsk, MetaSay};
+pub use name::{name_of, read_name};
+pub use record::{Record, RecordFault, record_spellings_are_apart, records_are_read_back};
 pub use stamp::Stamp;
+pub use stamps::{MAX_STAMPS, Stamps};
 
 #[cfg(test)]
 mod tests;

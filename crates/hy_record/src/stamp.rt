@@ -1,7 +1,7 @@
 //! Timestamps, by which the writes of a key are ordered.
 
 ghost use Rattle.std.specs.Prelude.{◌≡◌};
-ghost use Rattle.hy_record.specs.Stamp.{stamp_of, next_stamp};
+ghost use Rattle.hy_record.specs.Stamp.{stamp_of, next_stamp, stamp_lt, stamp_eq, IsStamp};
 
 use std::marker::Model;
 
@@ -57,6 +57,32 @@ impl Stamp {
         ensures { result ≡ self.cid }
     {
         self.cid
+    }
+
+    /// Whether the other one is above this one.
+    #[tactic(auto, unfolding(crate::specs::Stamp::stamp_lt))]
+    pub fn is_below(&self, other: &Stamp) -> bool
+        ensures { result ≡ stamp_lt self.now other.now }
+    {
+        *self < *other
+    }
+
+    /// Whether the two are one.
+    #[tactic(auto, unfolding(crate::specs::Stamp::stamp_eq))]
+    pub fn is_same(&self, other: &Stamp) -> bool
+        ensures { result ≡ stamp_eq self.now other.now }
+    {
+        *self == *other
+    }
+
+    /// This timestamp, and that its numbers are in range.
+    pub(crate) fn known(self) -> Stamp
+        ensures same { result ≡ self }
+        ensures range { IsStamp result }
+    {
+        let _number = self.sn;
+        let _client = self.cid;
+        self
     }
 
     /// The timestamp of this client's write upon this one; none where the sequence number is at its limit.

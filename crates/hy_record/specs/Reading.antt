@@ -1,0 +1,119 @@
+-- Reading a record from left to right, with the first fault that is met.
+use Rattle.std.specs.Prelude.{◌≡◌, ℕ, zero, suc, ◌-◌, ◌≤◌, IsTrue, Bool, ◌&&◌, ◌==◌, nat_lt, nat_le, List, [], ◌∷◌, length, take, drop, Result, Ok, Err, if◌then◌else◌}
+use Rattle.byteorder.specs.Endian.{big_number}
+use Rattle.hy_base.specs.declared.limits.TheConstants.{MAX_F, MAX_K, MAX_VALUE}
+use Rattle.hy_record.specs.declared.kind.Kind.{Kind}
+use Rattle.hy_record.specs.declared.kind.Kind.TheVariants.{Tomb, Whole, Coded}
+use Rattle.hy_record.specs.declared.record.fault.RecordFault.{RecordFault}
+use Rattle.hy_record.specs.declared.record.fault.RecordFault.TheVariants as faults
+use Rattle.hy_record.specs.declared.record.reading.Layout.{Layout}
+use Rattle.hy_record.specs.Stamp.{Timestamp, STAMP_END}
+use Rattle.hy_record.specs.Hash.{HASH_SIZE}
+use Rattle.hy_record.specs.Record.{RecordValue, is_part_count, is_cloud_list, hash_count, tombstone}
+
+infixl 10 ◌>>=◌
+abbrev pub ◌>>=◌ : {A B : Type 0} → Result A RecordFault → (A → Result B RecordFault) → Result B RecordFault
+(Ok x) >>= f = f x
+(Err e) >>= f = Err e
+
+-- the fault is the one that reading meets, unless memory ran out
+abbrev pub Fails : {Y : Type 0} → RecordFault → Result Y RecordFault → Type 0
+Fails faults.NoMemory read = Unit {0}
+Fails (faults.Short size) read = read ≡ Err (faults.Short size)
+Fails (faults.BadVersion byte) read = read ≡ Err (faults.BadVersion byte)
+Fails (faults.BadKind byte) read = read ≡ Err (faults.BadKind byte)
+Fails (faults.BadShape place) read = read ≡ Err (faults.BadShape place)
+Fails (faults.Extra place) read = read ≡ Err (faults.Extra place)
+
+-- what a function returned, as it is seen, is what reading gives, unless memory ran out
+abbrev pub Gives : {X Y : Type 0} → (X → Y) → Result X RecordFault → Result Y RecordFault → Type 0
+Gives view (Ok x) read = read ≡ Ok (view x)
+Gives view (Err e) read = Fails e read
+
+-- the number in the first bytes, and the bytes behind it; whole is the length of all that is read
+abbrev pub number_at : ℕ → ℕ → List ℕ → Result (ℕ × List ℕ) RecordFault
+number_at width whole bytes = if nat_lt (length bytes) width then Err (faults.Short whole) else Ok (big_number width bytes, drop width bytes)
+
+-- the number, where it is as its rule says; its field is the one at this place
+abbrev pub field_at : ℕ → ℕ → (ℕ → Bool) → ℕ → List ℕ → Result (ℕ × List ℕ) RecordFault
+field_at width place rule whole bytes = do
+  x ← number_at width whole bytes
+  if rule x.0 then Ok x else Err (faults.BadShape place)
+
+-- the version
+unfoldable pub version_at : ℕ → List ℕ → Result (List ℕ) RecordFault
+version_at whole [] = Err (faults.Short whole)
+version_at whole (zero ∷ rest) = Err (faults.BadVersion 0)
+version_at whole (suc zero ∷ rest) = Ok rest
+version_at whole (suc (suc b) ∷ rest) = Err (faults.BadVersion (suc (suc b)))
+
+-- the kind, and the bytes behind it
+unfoldable pub kind_at : ℕ → List ℕ → Result (Kind × List ℕ) RecordFault
+kind_at whole [] = Err (faults.Short whole)
+kind_at whole (zero ∷ rest) = Ok (Tomb, rest)
+kind_at whole (suc zero ∷ rest) = Ok (Whole, rest)
+kind_at whole (suc (suc zero) ∷ rest) = Ok (Coded, rest)
+kind_at whole (suc (suc (suc b)) ∷ rest) = Err (faults.BadKind (suc (suc (suc b))))
+
+-- a write's timestamp, which begins at place 2
+unfoldable pub stamp_at : ℕ → List ℕ → Result (Timestamp × List ℕ) RecordFault
+stamp_at whole bytes = do
+  sn ← field_at 4 2 (λ sn. nat_lt 0 sn && nat_lt sn STAMP_END) whole bytes
+  cid ← field_at 4 6 (λ cid. nat_lt 0 cid) whole sn.1
+  Ok (record { sn = sn.0; cid = cid.0 }, cid.1)
+
+-- the layout meets the rules of this kind
+pub record IsLayout (kind : Kind) (layout : Layout) : Type 0 where
+  pub size : layout.size ≤ MAX_VALUE
+  pub faults : layout.f ≤ MAX_F
+  pub parts : IsTrue (is_part_count kind layout.k)
+  pub few : layout.k ≤ MAX_K
+  pub clouds : IsTrue (is_cloud_list layout.f layout.k layout.clouds)
+
+-- the layout of a value of this kind, which begins at place 10
+unfoldable pub layout_at : Kind → ℕ → List ℕ → Result (Layout × List ℕ) RecordFault
+layout_at kind whole bytes = do
+  size ← field_at 4 10 (λ size. nat_le size MAX_VALUE) whole bytes
+  f ← field_at 1 14 (λ f. nat_le f MAX_F) whole size.1
+  k ← field_at 1 15 (λ k. is_part_count kind k) whole f.1
+  clouds ← field_at 2 16 (λ clouds. is_cloud_list f.0 k.0 clouds) whole k.1
+  Ok (record { size = size.0; f = f.0; k = k.0; clouds = clouds.0 }, clouds.1)
+
+-- a hash
+unfoldable pub hash_at : ℕ → List ℕ → Result (List ℕ × List ℕ) RecordFault
+hash_at whole bytes = if nat_lt (length bytes) HASH_SIZE then Err (faults.Short whole) else Ok (take HASH_SIZE bytes, drop HASH_SIZE bytes)
+
+-- so many hashes, one after another
+unfoldable pub hashes_at : ℕ → ℕ → List ℕ → Result (List (List ℕ) × List ℕ) RecordFault
+hashes_at zero whole bytes = Ok ([], bytes)
+hashes_at (suc count) whole bytes = do
+  first ← hash_at whole bytes
+  others ← hashes_at count whole first.1
+  Ok (first.0 ∷ others.0, others.1)
+
+-- a value's record of this kind, from its layout on
+unfoldable pub value_at : Kind → Timestamp → ℕ → List ℕ → Result (RecordValue × List ℕ) RecordFault
+value_at kind stamp whole bytes = do
+  layout ← layout_at kind whole bytes
+  hashes ← hashes_at (hash_count kind layout.0.f layout.0.k) whole layout.1
+  Ok (record { stamp = stamp; kind = kind; size = layout.0.size; f = layout.0.f; k = layout.0.k; clouds = layout.0.clouds; hashes = hashes.0 }, hashes.1)
+
+-- what stands behind the stamp: nothing of a deletion
+unfoldable pub body_at : Kind → Timestamp → ℕ → List ℕ → Result (RecordValue × List ℕ) RecordFault
+body_at Tomb stamp whole bytes = Ok (tombstone stamp, bytes)
+body_at Whole stamp whole bytes = value_at Whole stamp whole bytes
+body_at Coded stamp whole bytes = value_at Coded stamp whole bytes
+
+-- the record at the front, and the bytes behind it
+unfoldable pub record_at : ℕ → List ℕ → Result (RecordValue × List ℕ) RecordFault
+record_at whole bytes = do
+  rest ← version_at whole bytes
+  kind ← kind_at whole rest
+  stamp ← stamp_at whole kind.1
+  body_at kind.0 stamp.0 whole stamp.1
+
+-- the record that all of the bytes spell, or their first fault
+unfoldable pub record_of : List ℕ → Result RecordValue RecordFault
+record_of bytes = do
+  r ← record_at (length bytes) bytes
+  if length r.1 == 0 then Ok r.0 else Err (faults.Extra (length bytes - length r.1))

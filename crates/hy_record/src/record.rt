@@ -1,0 +1,200 @@
+//! Records: what the metadata service keeps of a key.
+
+ghost use Rattle.std.specs.Prelude.{◌≡◌, ◌≢◌, ◌<◌, ◌≤◌, ◌↔◌, IsTrue, IsSome, IfOk, All, length};
+ghost use Rattle.hy_record.specs.Stamp.{IsWritten};
+ghost use Rattle.hy_record.specs.Shape.{IsShape, cloud_count, fragment_size};
+ghost use Rattle.hy_record.specs.Hash.{IsHash};
+ghost use Rattle.hy_record.specs.Record.{tombstone, kind_of_parts, is_cloud_list, hash_count, hash_of, record_of_value, IsValidFragment};
+
+use crate::hash::{Hash, sha};
+use crate::kind::Kind;
+use crate::stamp::Stamp;
+use hy_base::{MAX_VALUE, NoMemory};
+use std::alloc::Global;
+use std::marker::Model;
+
+mod fault;
+mod reading;
+mod spelling;
+
+pub use fault::RecordFault;
+pub use reading::{record_spellings_are_apart, records_are_read_back};
+
+/// When the value of a key was written, and how it lies in the clouds; or that it was deleted.
+#[derive(Debug, Drop)]
+pub struct Record {
+    stamp: Stamp,
+    kind: Kind,
+    size: u32,
+    f: u8,
+    k: u8,
+    clouds: u16,
+    hashes: Vec<Hash>,
+}
+
+impl Model for Record {
+    ghost use Rattle.hy_record.specs.Record.{RecordValue};
+
+    ghost Value = { RecordValue };
+
+    ghost use Rattle.hy_record.specs.HeldRecord.{value_of, IsHeldRecord};
+
+    ghost view = { value_of };
+
+    ghost invariant = { IsHeldRecord };
+}
+
+impl Record {
+    /// The record of a deletion.
+    pub fn tomb(alloc: Global, stamp: Stamp) -> Result<Record, NoMemory>
+        requires { IsWritten stamp }
+        ensures { IfOk result (λ r. r ≡ tombstone stamp) }
+    {
+        Ok(Record {
+            stamp: stamp.known(),
+            kind: Kind::Tomb,
+            size: 0,
+            f: 0,
+            k: 0,
+            clouds: 0,
+            hashes: Vec::new(alloc),
+        })
+    }
+
+    /// The record of a value of so many bytes, which the listed clouds hold: bit i of `clouds` stands for cloud i.
+    ///
+    /// With one part there is one hash, that of the value; else one for each cloud, that of its fragment.
+    pub fn value(
+        alloc: Global,
+        stamp: Stamp,
+        size: u32,
+        f: u8,
+        k: u8,
+        clouds: u16,
+        hashes: &[Hash],
+    ) -> Result<Record, NoMemory>
+        requires written { IsWritten stamp }
+        requires size { size ≤ MAX_VALUE }
+        requires shape { IsShape f k }
+        requires quorum { IsTrue (is_cloud_list f k clouds) }
+        requires hashed { length hashes.now ≡ hash_count (kind_of_parts k) f k }
+        ensures { IfOk result (λ r. r ≡ record_of_value stamp size f k clouds hashes.now) }
+    {
+        let hashes = copied(alloc, hashes)?;
+        Ok(Record {
+            stamp: stamp.known(),
+            kind: if k == 1 { Kind::Whole } else { Kind::Coded },
+            size,
+            f,
+            k,
+            clouds,
+            hashes,
+        })
+    }
+
+    /// The same record in memory of its own.
+    pub fn copy(&self, alloc: Global) -> Result<Record, NoMemory>
+        ensures { IfOk result (λ r. r ≡ self.now) }
+    {
+        let hashes = Vec::from_slice(alloc, &self.hashes)?;
+        Ok(Record {
+            stamp: self.stamp,
+            kind: self.kind,
+            size: self.size,
+            f: self.f,
+            k: self.k,
+            clouds: self.clouds,
+            hashes,
+        })
+    }
+
+    /// The timestamp of the write.
+    pub fn stamp(&self) -> Stamp
+        ensures { result ≡ self.now.stamp }
+    {
+        self.stamp
+    }
+
+    /// Whether a value was written, and how it is cut.
+    pub fn kind(&self) -> Kind
+        ensures { result ≡ self.now.kind }
+    {
+        self.kind
+    }
+
+    /// The bytes of the value; 0 for a deletion.
+    pub fn size(&self) -> u32
+        ensures { result ≡ self.now.size }
+    {
+        self.size
+    }
+
+    /// The faulty clouds that the store bears; 0 for a deletion.
+    pub fn f(&self) -> u8
+        ensures { result ≡ self.now.f }
+    {
+        self.f
+    }
+
+    /// The parts of the value; 0 for a deletion.
+    pub fn k(&self) -> u8
+        ensures { result ≡ self.now.k }
+    {
+        self.k
+    }
+
+    /// The clouds that hold the value, cloud i as bit i; 0 for a deletion.
+    pub fn clouds(&self) -> u16
+        ensures { result ≡ self.now.clouds }
+    {
+        self.clouds
+    }
+
+    /// The bytes of a fragment; 0 for a deletion.
+    pub fn fragment_len(&self) -> u32
+        ensures { result ≡ fragment_size self.now.size self.now.k }
+    {
+        if self.k == 0 {
+            return 0;
+        }
+        let parts = u32::from(self.k);
+        (self.size + (parts - 1)) / parts
+    }
+
+    /// The hash of what this cloud holds.
+    pub fn hash(&self, i: u8) -> Option<Hash>
+        ensures value { result ≡ hash_of self.now i }
+        ensures found { IsSome result ↔ (self.now.kind ≢ Kind.Tomb) × (i < cloud_count self.now.f self.now.k) }
+    {
+        if i >= 2 * self.f + self.k {
+            return None;
+        }
+        match self.kind {
+            Kind::Tomb => None,
+            Kind::Whole => self.hashes.first().copied(),
+            Kind::Coded => self.hashes.get(i as usize).copied(),
+        }
+    }
+
+    /// Whether the bytes are those that this cloud was given to hold.
+    pub fn is_valid(&self, i: u8, bytes: &[u8]) -> bool
+        ensures { IsTrue result ↔ IsValidFragment self.now i bytes.now }
+    {
+        match self.hash(i) {
+            Some(hash) => bytes.len() == self.fragment_len() as usize && sha(bytes) == hash,
+            None => false,
+        }
+    }
+}
+
+/// A copy of the hashes.
+fn copied(alloc: Global, hashes: &[Hash]) -> Result<Vec<Hash>, NoMemory>
+    ensures same { IfOk result (λ copy. copy.items ≡ hashes.now) }
+    ensures sizes { IfOk result (λ copy. All IsHash copy.items) }
+{
+    let mut copy = Vec::new(alloc);
+    for hash in hashes {
+        copy.push(hash.known())?;
+    }
+    Ok(copy)
+}
