@@ -1,5 +1,5 @@
 -- When the state of a replay is that after some events. Lists of events have the newest first.
-use Rattle.std.specs.Prelude.{◌≡◌, ℕ, ◌<◌, List, length, map, filter}
+use Rattle.std.specs.Prelude.{◌≡◌, ℕ, ◌<◌, List, ◌∷◌, length, map, filter}
 use Rattle.std.specs.Map.{keys_of as keys_in}
 use Rattle.hy_base.specs.declared.limits.TheConstants.{MAX_EVENTS}
 use Rattle.hy_order.specs.Linearization.{is_of_key}
@@ -29,3 +29,7 @@ pub record StandsFor (run : Run) (events : List Event) : Type 0 where
 -- the run is one of so few events that one more may come
 abbrev pub HasRoom : Run → Type 0
 HasRoom run = (events : List Event) × StandsFor run events × (length events < MAX_EVENTS)
+
+-- new is the run of one more event than old
+abbrev pub RunsEvent : Run → Run → Event → Type 0
+RunsEvent old new event = (before : List Event) → StandsFor old before → StandsFor new (event ∷ before)

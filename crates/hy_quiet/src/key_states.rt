@@ -55,7 +55,8 @@ impl KeyStates {
     ) -> Result<Stamp, NoMemory>
         requires { put_count (state_at self.old key).1 + 1 < STAMP_END }
         ensures stamp { IfOk result (λ stamp. stamp ≡ stamp_upon (state_at self.old key).1 client) }
-        ensures states { IfOk result (λ stamp. self.new ≡ with_state self.old key (state_after_put (state_at self.old key) number value.now stamp)) }
+        ensures states { IfOk result (λ stamp. self.new
+            ≡ with_state self.old key (state_after_put (state_at self.old key) number value.now stamp)) }
     {
         let state = self.states.entry(key)?.or_insert(KeyState::new(alloc));
         state.put(alloc, number, client, value)
@@ -64,7 +65,8 @@ impl KeyStates {
     /// Adds a get to the key's operations, and answers what it is told.
     pub fn get(&mut self, alloc: Global, key: Key, number: u32) -> Result<Reply, NoMemory>
         ensures reply { IfOk result (λ reply. reply ≡ answer (state_at self.old key).1) }
-        ensures states { OnOk result (self.new ≡ with_state self.old key (state_after_get (state_at self.old key) number)) }
+        ensures states { OnOk result (self.new
+            ≡ with_state self.old key (state_after_get (state_at self.old key) number)) }
     {
         let state = self.states.entry(key)?.or_insert(KeyState::new(alloc));
         state.get(alloc, number)

@@ -45,7 +45,7 @@ pub fn replay(alloc: Global, events: Vec<Event>) -> Result<Report, NoMemory>
 impl Run {
     ghost use Rattle.std.specs.Prelude.{◌≡◌, ◌+◌, ◌<◌, ◌≤◌, ◌^◌, ◌↔◌, List, [], ◌∷◌, ◌++◌, length, IsTrue, IfOk, OnOk};
     ghost use Rattle.hy_quiet.specs.Replay.{quiet_report};
-    ghost use Rattle.hy_quiet.specs.Run.{StandsFor, HasRoom};
+    ghost use Rattle.hy_quiet.specs.Run.{StandsFor, HasRoom, RunsEvent};
 
     /// The run of no events.
     fn new(alloc: Global) -> Run
@@ -62,7 +62,7 @@ impl Run {
     /// Runs one more event.
     fn step(&mut self, alloc: Global, event: Event) -> Result<(), NoMemory>
         requires { HasRoom self.old }
-        ensures { OnOk result ((before : List Event) → StandsFor self.old before → StandsFor self.new (event ∷ before)) }
+        ensures { OnOk result (RunsEvent self.old self.new event) }
     {
         match event {
             Event::Open => {
@@ -77,7 +77,7 @@ impl Run {
     /// Lets the next client join.
     fn open(&mut self)
         requires { HasRoom self.old }
-        ensures { (before : List Event) → StandsFor self.old before → StandsFor self.new (Event.Open ∷ before) }
+        ensures { RunsEvent self.old self.new Event.Open }
     {
         self.steps += 1;
         self.joined += 1;
@@ -86,7 +86,7 @@ impl Run {
     /// Runs a put, which is no operation where the client did not join.
     fn put(&mut self, alloc: Global, client: u32, key: Key, value: Blob) -> Result<(), NoMemory>
         requires { HasRoom self.old }
-        ensures { OnOk result ((before : List Event) → StandsFor self.old before → StandsFor self.new (Event.Put client key value ∷ before)) }
+        ensures { OnOk result (RunsEvent self.old self.new (Event.Put client key value)) }
     {
         if !self.has_joined(client) {
             self.steps += 1;
@@ -102,7 +102,7 @@ impl Run {
     /// Runs a get, which is no operation where the client did not join.
     fn get(&mut self, alloc: Global, client: u32, key: Key) -> Result<(), NoMemory>
         requires { HasRoom self.old }
-        ensures { OnOk result ((before : List Event) → StandsFor self.old before → StandsFor self.new (Event.Get client key ∷ before)) }
+        ensures { OnOk result (RunsEvent self.old self.new (Event.Get client key)) }
     {
         if !self.has_joined(client) {
             self.steps += 1;
@@ -115,7 +115,7 @@ impl Run {
         Ok(())
     }
 
-    /// Whether so many clients joined.
+    /// Whether the client joined: clients have their numbers in the order in which they join.
     fn has_joined(&self, client: u32) -> bool
         ensures { IsTrue result ↔ (client ≤ self.now.joined) }
     {
@@ -141,8 +141,13 @@ impl Run {
     ) -> Result<(), NoMemory>
         requires { self.old.steps + 1 + steps < 2 ^ 64 }
         ensures steps { OnOk result (self.new.steps ≡ self.old.steps + steps) }
-        ensures operations { OnOk result (self.new.operations.items ≡ self.old.operations.items
-            ++ record { number = number; client = client; action = action; invoked = self.old.steps + 1; end = End.Replied (self.old.steps + steps) reply } ∷ []) }
+        ensures operations { OnOk result (self.new.operations.items ≡ self.old.operations.items ++ record {
+          number = number;
+          client = client;
+          action = action;
+          invoked = self.old.steps + 1;
+          end = End.Replied (self.old.steps + steps) reply;
+        } ∷ []) }
         ensures joined { self.new.joined ≡ self.old.joined }
         ensures states { self.new.states ≡ self.old.states }
     {
@@ -164,7 +169,8 @@ impl Run {
     /// The operations, their orders, and where the current versions lie.
     fn into_report(self, alloc: Global) -> Result<Report, NoMemory>
         requires { (events : List Event) × StandsFor self events }
-        ensures { IfOk result (λ report. (events : List Event) → StandsFor self events → report ≡ quiet_report events) }
+        ensures { IfOk result (λ report.
+            (events : List Event) → StandsFor self events → report ≡ quiet_report events) }
     {
         let (orders, held) = self.states.into_lists(alloc)?;
         Ok(Report {
@@ -177,7 +183,8 @@ impl Run {
 
 /// The steps of a get with this reply.
 fn steps_of_get(reply: &Reply) -> u64
-    ensures value { (current : Option Version) → reply.now ≡ answer current → result ≡ (if is_some current then 5 else 3) }
+    ensures value { (current : Option Version)
+        → reply.now ≡ answer current → result ≡ (if is_some current then 5 else 3) }
     ensures few { result ≤ 5 }
 {
     match reply {
