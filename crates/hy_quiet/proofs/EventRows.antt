@@ -5,13 +5,12 @@ use Rattle.std.specs.Fmt.{decimal}
 use Rattle.std.specs.Str.{bytes_eq}
 use Rattle.std.proofs.lemmas.Bool.{and_parts, and_from, leb-true, le-leb}
 use Rattle.std.proofs.lemmas.Slice.Eq.{bytes_eq-Decides}
-use Rattle.hy_base.specs.declared.fault.Cause.{Cause}
 use Rattle.hy_base.specs.declared.fault.Cause.TheVariants.{BadWord}
 use Rattle.hy_base.specs.declared.limits.TheConstants.{MAX_SESSIONS, MAX_TEXT_VALUE}
 use Rattle.hy_record.specs.Key.{is_key}
 use Rattle.hy_text.specs.Hex.{IsBytes}
 use Rattle.hy_text.specs.Line.{first_word, later_words}
-use Rattle.hy_text.specs.Slot.{◌>>=◌, number_of, value_of, key_word, end_of, value_word}
+use Rattle.hy_text.specs.Slot.{number_of, value_of, key_word, end_of, value_word}
 use Rattle.hy_text.proofs.Keys.{key_takes, key_again}
 use Rattle.hy_text.proofs.Numbers.{number_takes, number_again}
 use Rattle.hy_text.proofs.Printed.{length-decimal, length-key, length-value_word}

@@ -1,11 +1,9 @@
 -- The two laws of the text of a schedule: what is read is spelled so, and what is spelled so is read.
-use Rattle.std.proofs.Common.{◌≡◌, ℕ, ◌+◌, ◌≤◌, Bool, true, false, cond, ◌&&◌, not, nat_eq, nat_le, IsTrue, List, [], ◌∷◌, length, map, Result, Ok, Err, refl, sym, ap, subst, ◌∙◌, arith}
-use Rattle.std.specs.Prelude.{codes, IfOk, count_by, nat_lt}
-use Rattle.std.specs.Fmt.{decimal}
+use Rattle.std.proofs.Common.{◌≡◌, ℕ, ◌+◌, ◌≤◌, Bool, true, false, cond, nat_le, List, [], ◌∷◌, length, map, Result, Ok, Err, refl, sym, ap, subst, ◌∙◌, arith}
+use Rattle.std.specs.Prelude.{codes, IfOk, nat_lt}
 use Rattle.std.specs.List.{AllByRecursion, list_all}
 use Rattle.std.specs.Str.{bytes_eq}
-use Rattle.std.proofs.lemmas.Bool.{and_parts, and_from, leb-true, leb-false, ltb-true, lt-leb, le-leb}
-use Rattle.std.proofs.lemmas.Bool.Decides.{nat_tests}
+use Rattle.std.proofs.lemmas.Bool.{and_parts, and_from, leb-true, leb-false, ltb-true, lt-leb}
 use Rattle.std.proofs.lemmas.List.Sums.{sum_by-cons}
 use Rattle.std.proofs.lemmas.Slice.Eq.{bytes_eq-Decides}
 use Rattle.hy_base.specs.declared.fault.Cause.{Cause}
@@ -15,15 +13,15 @@ use Rattle.hy_base.specs.declared.fault.TextError.TheVariants as errors
 use Rattle.hy_base.specs.declared.fault.TextFault.{TextFault}
 use Rattle.hy_base.specs.declared.limits.TheConstants.{MAX_EVENTS, MAX_SESSIONS}
 use Rattle.hy_text.specs.Gives.{GivesText, at_line}
-use Rattle.hy_text.specs.Line.{Line, ended_line, text_of, lines_of, first_word, later_words, is_word, is_row}
-use Rattle.hy_text.specs.Slot.{◌>>=◌, end_of, value_word}
+use Rattle.hy_text.specs.Line.{Line, ended_line, text_of, lines_of, first_word, later_words, is_row}
+use Rattle.hy_text.specs.Slot.{◌>>=◌}
 use Rattle.hy_text.proofs.Printed.{is_word-decimal, is_word-key, is_word-value_word}
 use Rattle.hy_text.proofs.Rows.{lines_of-text_of, text_of-lines_of}
 use Rattle.hy_text.proofs.Slots.{bind_ok, ok_is, words_from_first}
 use Rattle.hy_quiet.specs.declared.event.Event.{Event}
 use Rattle.hy_quiet.specs.declared.event.Event.TheVariants.{Open, Put, Get}
-use Rattle.hy_quiet.specs.Event.{is_open, joined_count}
-use Rattle.hy_quiet.specs.Schedule.{header_row, event_row, schedule_text, is_client, IsWritable, IsSchedule, IsQuiet, word_due, words_due, params_row, header_of, header_at, event_of, room_for, end_of_line, event_at, joined_with, events_from, schedule_at, schedule_of}
+use Rattle.hy_quiet.specs.Event.{joined_count}
+use Rattle.hy_quiet.specs.Schedule.{header_row, event_row, schedule_text, IsWritable, IsSchedule, IsQuiet, word_due, words_due, params_row, header_of, header_at, event_of, room_for, end_of_line, event_at, joined_with, events_from, schedule_at, schedule_of}
 use Rattle.hy_quiet.proofs.EventRows.{Spells, event_takes, event_again}
 
 -- the value of a line that is not at fault

@@ -1,5 +1,5 @@
 -- Reading the event lines one after the other, as a loop does.
-use Rattle.std.proofs.Common.{◌≡◌, ℕ, ◌+◌, List, [], ◌∷◌, ◌++◌, length, Result, Ok, Err, refl, sym, ap, ◌∙◌, append_assoc, append-nil, arith, length-append}
+use Rattle.std.proofs.Common.{◌≡◌, ℕ, ◌+◌, List, [], ◌∷◌, ◌++◌, Result, Ok, Err, refl, sym, ap, ◌∙◌, append_assoc, append-nil}
 use Rattle.hy_base.specs.declared.fault.TextError.{TextError}
 use Rattle.hy_base.specs.declared.fault.TextError.TheVariants as errors
 use Rattle.hy_base.specs.declared.fault.TextFault.{TextFault}
@@ -12,10 +12,6 @@ use Rattle.hy_quiet.specs.Schedule.{event_at, events_from, joined_with}
 -- the events that were read before, and those that are still read
 abbrev pub with_front : List Event → Result (List Event) TextFault → Result (List Event) TextFault
 with_front front later = later >>= λ events. Ok (front ++ events)
-
-pub with_front-nil : (later : Result (List Event) TextFault) → with_front [] later ≡ later
-with_front-nil (Ok events) = refl
-with_front-nil (Err fault) = refl
 
 with_front-more : (front : List Event) (event : Event) (later : Result (List Event) TextFault) → with_front front (later >>= λ events. Ok (event ∷ events)) ≡ with_front (front ++ event ∷ []) later
 with_front-more front event (Ok events) = ap (λ (all : List Event). Ok all) (sym (append_assoc front (event ∷ []) events))

@@ -1,5 +1,5 @@
 -- The text of a quiet schedule: a row of words for each event, and what is wrong with other texts.
-use Rattle.std.specs.Prelude.{◌≡◌, ℕ, ◌+◌, ◌≤◌, ◌==◌, Bool, ◌&&◌, IsTrue, nat_le, nat_lt, List, [], ◌∷◌, length, map, codes, count_by, Result, Ok, Err, if◌then◌else◌}
+use Rattle.std.specs.Prelude.{◌≡◌, ℕ, ◌+◌, ◌≤◌, Bool, ◌&&◌, IsTrue, nat_le, List, [], ◌∷◌, length, map, codes, Result, Ok, Err, if◌then◌else◌}
 use Rattle.std.specs.List.{AllByRecursion}
 use Rattle.std.specs.Fmt.{decimal}
 use Rattle.std.specs.Str.{bytes_eq}
@@ -18,9 +18,13 @@ use Rattle.hy_quiet.specs.Event.{is_open, joined_count}
 
 -- ---- the text of a schedule
 
--- the first line: no fault to bear, one part, and no Byzantine clouds
+-- the first line behind its first two words: no fault to bear, one part, and no Byzantine clouds
+abbrev pub params_row : List (List ℕ)
+params_row = codes "f" ∷ codes "0" ∷ codes "k" ∷ codes "1" ∷ codes "liars" ∷ codes "-" ∷ []
+
+-- the first line
 abbrev pub header_row : List (List ℕ)
-header_row = codes "hybris" ∷ codes "1" ∷ codes "f" ∷ codes "0" ∷ codes "k" ∷ codes "1" ∷ codes "liars" ∷ codes "-" ∷ []
+header_row = codes "hybris" ∷ codes "1" ∷ params_row
 
 -- the line of an event
 abbrev pub event_row : Event → List (List ℕ)
@@ -65,10 +69,6 @@ abbrev pub words_due : Cause → List (List ℕ) → List (List ℕ) → Result 
 words_due cause [] [] = Ok tt
 words_due cause [] (word ∷ words) = Err cause
 words_due cause (due ∷ dues) words = word_due cause due (first_word words) >>= λ _. words_due cause dues (later_words words)
-
--- what is due on the first line behind its first two words
-abbrev pub params_row : List (List ℕ)
-params_row = codes "f" ∷ codes "0" ∷ codes "k" ∷ codes "1" ∷ codes "liars" ∷ codes "-" ∷ []
 
 -- the words of the first line: the first two are judged before the rest
 unfoldable pub header_of : List (List ℕ) → Result (Unit {0}) Cause

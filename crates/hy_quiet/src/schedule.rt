@@ -11,7 +11,6 @@ ghost use Rattle.hy_quiet.specs.declared.event.Event.{Event};
 ghost use Rattle.hy_quiet.specs.Schedule.{
   IsQuiet,
   IsSchedule,
-  schedule_text,
   action_of,
   do_of,
   end_of_line,
@@ -27,6 +26,7 @@ ghost use Rattle.hy_quiet.specs.Schedule.{
   put_of,
   room_for,
   schedule_of,
+  schedule_text,
   word_due,
   words_due,
 };
@@ -43,11 +43,15 @@ use hy_text::{
 use std::alloc::Global;
 
 /// The events of the schedule that the text is.
+///
+/// Its store bears no faults, keeps values whole and has no Byzantine clouds; the first line of
+/// another store is `BadParams`.
 pub fn read_schedule(alloc: Global, text: &[u8]) -> Result<Events, TextError>
     // What is read is the text of a schedule.
     ensures found { IfOk result (λ events. IsSchedule events × (text.now ≡ schedule_text events)) }
     // The text of a schedule is read, unless memory runs out.
-    ensures only { (events : List Event) → IsSchedule events → text.now ≡ schedule_text events → GivesText result (Ok events) }
+    ensures only { (events : List Event) → IsSchedule events → text.now ≡ schedule_text events →
+        GivesText result (Ok events) }
     // The text of a schedule has no fault.
     ensures refused { (fault : TextFault) → result ≡ Err (errors.Fault fault) → ¬ IsQuiet text.now }
     // Which fault it is: the first of the text.
@@ -95,7 +99,8 @@ fn push_event(out: &mut Vec<u8>, event: &Event) -> Result<(), NoMemory>
 
 /// Appends the words that the line of an operation has up to its key.
 fn push_action(out: &mut Vec<u8>, client: u32, keyword: &[u8], key: &Key) -> Result<(), NoMemory>
-    ensures { OnOk result (out.new.items ≡ out.old.items ++ codes "do " ++ decimal client ++ keyword.now ++ key.now) }
+    ensures { OnOk result
+        (out.new.items ≡ out.old.items ++ codes "do " ++ decimal client ++ keyword.now ++ key.now) }
 {
     out.extend_from_slice(b"do ")?;
     push_number(out, client.into())?;
@@ -146,8 +151,10 @@ fn read_event_line(
 ) -> Result<Event, TextError>
     requires few { count ≤ MAX_EVENTS }
     requires fit { joined ≤ MAX_SESSIONS }
-    ensures gives { GivesText result (at_line (count + 2) (event_at count joined (line_seen line.old))) }
-    ensures room { IfOk result (λ event. (count < MAX_EVENTS) × (joined_with joined event ≤ MAX_SESSIONS)) }
+    ensures gives { GivesText result
+        (at_line (count + 2) (event_at count joined (line_seen line.old))) }
+    ensures room { IfOk result
+        (λ event. (count < MAX_EVENTS) × (joined_with joined event ≤ MAX_SESSIONS)) }
 {
     match read_event(alloc, count, joined, line) {
         Ok(event) => Ok(event),
@@ -160,7 +167,8 @@ fn read_event_line(
 fn read_event(alloc: Global, count: u32, joined: u32, line: &mut Line) -> Result<Event, LineError>
     requires { joined ≤ MAX_SESSIONS }
     ensures gives { Gives result (event_at count joined (line_seen line.old)) }
-    ensures room { IfOk result (λ event. (count < MAX_EVENTS) × (joined_with joined event ≤ MAX_SESSIONS)) }
+    ensures room { IfOk result
+        (λ event. (count < MAX_EVENTS) × (joined_with joined event ≤ MAX_SESSIONS)) }
 {
     if count >= MAX_EVENTS {
         return Err(LineError::Bad(Cause::TooManyLines));

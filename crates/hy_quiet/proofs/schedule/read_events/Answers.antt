@@ -1,13 +1,11 @@
 -- A line that is read moves its event from what is left to what was read; the first that is not is the fault of all.
-use Rattle.std.proofs.Common.{◌≡◌, ◌≤◌, ◌+◌, List, [], ◌∷◌, ◌++◌, length, arith, refl, sym, ap, ◌∙◌, length-append}
+use Rattle.std.proofs.Common.{◌≡◌, ◌+◌, [], ◌∷◌, ◌++◌, length, arith, sym, ap, ◌∙◌, length-append}
 use Rattle.std.proofs.lemmas.Bool.{cond-true, cond-false}
 use Rattle.std.proofs.lemmas.Result.{err_from_is_err_and}
-use Rattle.hy_base.specs.declared.limits.TheConstants.{MAX_EVENTS, MAX_SESSIONS}
-use Rattle.hy_text.specs.Line.{Line}
 use Rattle.hy_text.specs.Seen.{line_seen}
 use Rattle.hy_quiet.specs.Event.{is_open}
-use Rattle.hy_quiet.specs.Schedule.{events_from, joined_with}
-use Rattle.hy_quiet.proofs.ScheduleLoop.{with_front, goes_on, ends, is_done}
+use Rattle.hy_quiet.specs.Schedule.{joined_with}
+use Rattle.hy_quiet.proofs.ScheduleLoop.{goes_on, ends, is_done}
 use Rattle.hy_quiet.proofs.schedule.read_events.Goals as goal
 use Rattle.hy_quiet.proofs.schedule.read_events.Goals.{then-is_open, else-is_open}
 

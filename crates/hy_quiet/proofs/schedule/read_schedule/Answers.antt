@@ -1,5 +1,5 @@
 -- Both laws hold of what the definition answers.
-use Rattle.std.proofs.Common.{Ok, ap, subst, ◌∙◌}
+use Rattle.std.proofs.Common.{ap, subst, ◌∙◌}
 use Rattle.hy_text.specs.Gives.{GivesText}
 use Rattle.hy_quiet.specs.Schedule.{schedule_of}
 use Rattle.hy_quiet.proofs.ScheduleLaws.{is_found, is_refused, schedule_again}
