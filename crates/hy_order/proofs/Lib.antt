@@ -1,3 +1,4 @@
 mod Spaced
 mod Lines
 mod Clouds
+pub mod Legal

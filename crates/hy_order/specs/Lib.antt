@@ -3,3 +3,4 @@ pub mod Linearization
 pub mod Keys
 pub mod Report
 pub mod Words
+pub mod Violation
