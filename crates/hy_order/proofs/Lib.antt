@@ -2,3 +2,5 @@ mod Spaced
 mod Lines
 mod Clouds
 pub mod Legal
+pub mod Places
+pub mod Listed

@@ -1,5 +1,5 @@
 -- The first violation that keeps an order of a key from being a linearization.
-use Rattle.std.specs.Prelude.{ℕ, ◌==◌, Bool, true, false, ◌&&◌, not, if◌then◌else◌, List, [], ◌∷◌, ◌++◌, Option, Some, None, is_none}
+use Rattle.std.specs.Prelude.{◌≡◌, ℕ, ◌+◌, ◌<◌, ◌==◌, Bool, true, false, ◌&&◌, not, if◌then◌else◌, List, [], ◌∷◌, ◌++◌, Option, Some, None, is_some, is_none, length, min, slice_index_or}
 use Rattle.std.specs.List.{find, list_any}
 use Rattle.std.specs.Option.{option_map, option_or, option_map_or}
 use Rattle.std.specs.Str.{bytes_eq}
@@ -73,3 +73,24 @@ first_violation history key order =
     (option_map_or Twice (repeated_number order)
     (option_map_or (λ (pair : ℕ × ℕ). Early pair.0 pair.1) (early_numbers (listed history order))
     (option_map_or Wrong (wrong_number None (listed history order)) Legal))))
+
+-- the order from the first operation on behind which one stands that returned before it was invoked
+abbrev pub early_part : List Operation → List Operation
+early_part [] = []
+early_part (op ∷ later) =
+    if is_some (find (λ next. returned_before op.invoked next.end) later) then op ∷ later else early_part later
+
+-- the step of the return, or the last step that there is
+abbrev pub return_step : End → ℕ
+return_step (Replied at reply) = at
+return_step (Pending phase have need) = 18446744073709551615
+
+-- the step of the earliest return
+abbrev pub earliest_return : List Operation → ℕ
+earliest_return [] = 18446744073709551615
+earliest_return (op ∷ later) = min (return_step op.end) (earliest_return later)
+
+-- a mark for each number up to the count: true where it is listed
+pub record IsMarked (count : ℕ) (numbers : List ℕ) (marks : List Bool) : Type 0 where
+  pub room : length marks ≡ count + 1
+  pub each : (number : ℕ) → number < length marks → slice_index_or marks number false ≡ is_listed numbers number

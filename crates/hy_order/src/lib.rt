@@ -9,7 +9,7 @@ mod order;
 mod report;
 mod writing;
 
-pub use checking::{Verdict, legal_exactly_for_linearizations};
+pub use checking::{Verdict, check, legal_exactly_for_linearizations};
 pub use held::{Held, HeldList};
 pub use history::History;
 pub use operation::{End, Operation};
