@@ -24,7 +24,7 @@ cond_none_from : {X : Type 0} (b : Bool) (x : X) (rest : Option X) → b ≡ fal
 cond_none_from b x rest fails none = cond-false b (Some x) rest fails ∙ none
 
 -- nothing is found exactly where each element fails the test
-find_none : {X : Type 0} (p : X → Bool) (xs : List X) → find p xs ≡ None → AllByRecursion (λ x. p x ≡ false) xs
+pub find_none : {X : Type 0} (p : X → Bool) (xs : List X) → find p xs ≡ None → AllByRecursion (λ x. p x ≡ false) xs
 find_none p [] none = tt
 find_none p (x ∷ xs) none = let parts = cond_none (p x) x (find p xs) none in (parts.0, find_none p xs parts.1)
 
@@ -32,7 +32,7 @@ find_none_from : {X : Type 0} (p : X → Bool) (xs : List X) → AllByRecursion 
 find_none_from p [] all = refl
 find_none_from p (x ∷ xs) all = cond_none_from (p x) x (find p xs) all.0 (find_none_from p xs all.1)
 
-each : {X : Type 0} {P Q : X → Type 0} → ((x : X) → P x → Q x) → (xs : List X) → AllByRecursion P xs → AllByRecursion Q xs
+pub each : {X : Type 0} {P Q : X → Type 0} → ((x : X) → P x → Q x) → (xs : List X) → AllByRecursion P xs → AllByRecursion Q xs
 each weaker [] all = tt
 each weaker (x ∷ xs) all = (weaker x all.0, each weaker xs all.1)
 
@@ -144,12 +144,12 @@ real_time : (ops : List Operation) → early_numbers ops ≡ None → RespectsRe
 real_time [] none = tt
 real_time (op ∷ later) none =
     let parts = option_or_none _ _ none in
-    (find_none _ later (option_map_none _ _ parts.0), real_time later parts.1)
+    (find_none _ later (option_map_none _ _ (option_map_none _ _ parts.0)), real_time later parts.1)
 
 real_time_from : (ops : List Operation) → RespectsRealTime ops → early_numbers ops ≡ None
 real_time_from [] respects = refl
 real_time_from (op ∷ later) respects =
-    ap (λ found. option_or (option_map (λ (next : Operation). (next.number, op.number)) found) (early_numbers later)) (find_none_from _ later respects.0)
+    ap (λ found. option_or (option_map (λ earlier. (earlier, op.number)) (option_map (λ (next : Operation). next.number) found)) (early_numbers later)) (find_none_from _ later respects.0)
     ∙ real_time_from later respects.1
 
 -- no reply is wrong exactly where each tells what the register holds
@@ -244,3 +244,9 @@ Legal-IsLinearization history key order = (
     wrong = reads_from None (listed history order) known.reads;
   }),
 )
+
+-- the verdict that names the first violation is Legal exactly where the order is a linearization
+pub Legal-verdict : (history : List Operation) (key order : List ℕ) (verdict : Verdict) → verdict ≡ first_violation history key order → (verdict ≡ Legal) ↔ IsLinearization history key order
+Legal-verdict history key order verdict is =
+    let both = Legal-IsLinearization history key order in
+    (λ legal. both.0 (sym is ∙ legal), λ known. is ∙ both.1 known)

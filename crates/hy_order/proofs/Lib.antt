@@ -4,3 +4,4 @@ mod Clouds
 pub mod Legal
 pub mod Places
 pub mod Listed
+pub mod Verdicts

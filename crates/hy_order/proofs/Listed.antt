@@ -1,23 +1,15 @@
 -- Listed operations, taken one by one from the front or from the back.
 use Rattle.std.proofs.Common.{◌≡◌, ℕ, ◌+◌, ◌-◌, ◌^◌, ◌<◌, ◌≤◌, Bool, true, false, ◌||◌, cond, ltb, min, List, [], ◌∷◌, ◌++◌, length, map, Option, Some, None, option_map, is_some, refl, sym, ap, ◌∙◌, subst, inl, inr, arith, get_or, take, drop}
 use Rattle.std.proofs.lemmas.Bool.{cond-true, cond-false, cond_both, ltb-true, ltb-false, lt-ltb, le-ltb, cases_lt, cases_Bool}
-use Rattle.std.proofs.lemmas.List.{take_more, take_all, drop_more, drop_all, get_or-map, length-map}
-use Rattle.std.proofs.lemmas.List.Elements.{filter_map-append}
-use Rattle.std.specs.List.{find, cons_option}
+use Rattle.std.proofs.lemmas.List.{drop_more, drop-map, take_rest}
+use Rattle.std.specs.Borrow.{Bor}
+use Rattle.std.specs.List.{find}
 use Rattle.std.specs.Option.{option_or}
 use Rattle.hy_order.specs.declared.operation.End.{End}
 use Rattle.hy_order.specs.declared.operation.End.TheVariants.{Replied, Pending}
 use Rattle.hy_order.specs.declared.operation.Operation.{Operation}
-use Rattle.hy_order.specs.Linearization.{returned_before, register_after, operation_at, listed}
-use Rattle.hy_order.specs.Violation.{early_numbers, early_part, earliest_return, return_step, tells_register, wrong_number}
-
--- one more number lists its operation, if there is one
-listed-more : (ops : List Operation) (numbers : List ℕ) (place number : ℕ) → place < length numbers → number ≡ get_or numbers place 0
-    → listed ops (take (place + 1) numbers) ≡ listed ops (take place numbers) ++ cons_option (operation_at ops number) []
-listed-more ops numbers place number within is =
-    ap (listed ops) (take_more numbers place 0 within)
-    ∙ filter_map-append (operation_at ops) (take place numbers) (get_or numbers place 0 ∷ [])
-    ∙ ap (λ number. listed ops (take place numbers) ++ cons_option (operation_at ops number) []) (sym is)
+use Rattle.hy_order.specs.Linearization.{returned_before}
+use Rattle.hy_order.specs.Violation.{early_numbers, early_part, earliest_return, return_step, returned_number}
 
 -- a return before the step is one of which the earliest is before it
 returned_before-return_step : (step : ℕ) (end : End) → step < 2 ^ 64 → returned_before step end ≡ ltb (return_step end) step
@@ -68,3 +60,43 @@ module _ (ops : List Operation) (place next earliest : ℕ) (op : Operation) (is
   -- and otherwise the early part is that of the operations behind it
   pub early_part-later : (part : List Operation) → op.invoked < 2 ^ 64 → op.invoked ≤ earliest → part ≡ early_part (drop next ops) → part ≡ early_part (drop place ops)
   early_part-later part small late is_part = is_part ∙ sym (early_part-at small ∙ cond-false _ _ _ (le-ltb _ _ late))
+
+-- the early numbers are those of the first operation of the early part
+first_pair : List Operation → Option (ℕ × ℕ)
+first_pair [] = None
+first_pair (op ∷ later) = option_map (λ earlier. (earlier, op.number)) (returned_number op.invoked later)
+
+early_numbers-first : (op : Operation) (later : List Operation) (found : Option Operation) → find (λ next. returned_before op.invoked next.end) later ≡ found → early_numbers later ≡ first_pair (early_part later)
+    → early_numbers (op ∷ later) ≡ first_pair (early_part (op ∷ later))
+unfolding first_pair
+early_numbers-first op later None is rest =
+    ap (λ found. option_or (option_map (λ earlier. (earlier, op.number)) (option_map (λ (next : Operation). next.number) found)) (early_numbers later)) is
+    ∙ rest
+    ∙ sym (ap (λ found. first_pair (cond (is_some found) (op ∷ later) (early_part later))) is)
+early_numbers-first op later (Some next) is rest =
+    ap (λ found. option_or (option_map (λ earlier. (earlier, op.number)) (option_map (λ (next : Operation). next.number) found)) (early_numbers later)) is
+    ∙ sym (ap (option_map (λ earlier. (earlier, op.number))) (ap (option_map (λ (next : Operation). next.number)) is))
+    ∙ sym (ap (λ found. first_pair (cond (is_some found) (op ∷ later) (early_part later))) is)
+
+early_numbers-part : (ops : List Operation) → early_numbers ops ≡ first_pair (early_part ops)
+unfolding first_pair
+early_numbers-part [] = refl
+early_numbers-part (op ∷ later) = early_numbers-first op later (find (λ next. returned_before op.invoked next.end) later) refl (early_numbers-part later)
+
+pub early_numbers-none : (ops : List Operation) → early_part ops ≡ [] → early_numbers ops ≡ None
+unfolding first_pair
+early_numbers-none ops none = early_numbers-part ops ∙ ap first_pair none
+
+pub early_numbers-at : (ops : List Operation) (op : Operation) (later : List Operation) → early_part ops ≡ op ∷ later → early_numbers ops ≡ option_map (λ earlier. (earlier, op.number)) (returned_number op.invoked later)
+unfolding first_pair
+early_numbers-at ops op later is = early_numbers-part ops ∙ ap first_pair is
+
+-- the operations behind references
+abbrev pub targets : List (Bor Operation) → List Operation
+targets ops = map (λ (op : Bor Operation). op.now) ops
+
+-- the early part, read from the references that begin at its place
+pub early_part-targets : (ops : List (Bor Operation)) (start : ℕ) (rest : List (Bor Operation)) → drop start (targets ops) ≡ early_part (targets ops) → take (length ops - start) (drop start ops) ≡ rest
+    → early_part (targets ops) ≡ targets rest
+early_part-targets ops start rest part cut =
+    sym part ∙ drop-map (λ (op : Bor Operation). op.now) start ops ∙ ap targets (sym (take_rest ops start) ∙ cut)

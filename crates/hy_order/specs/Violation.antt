@@ -39,11 +39,15 @@ repeated_behind earlier (number ∷ later) =
 abbrev pub repeated_number : List ℕ → Option ℕ
 repeated_number order = repeated_behind [] order
 
--- the first operation behind which one stands that returned before it was invoked, and in front of it the first such one
+-- the first operation that returned before the step
+abbrev pub returned_number : ℕ → List Operation → Option ℕ
+returned_number step ops = option_map (λ (op : Operation). op.number) (find (λ op. returned_before step op.end) ops)
+
+-- the first operation behind which one stands that returned before it was invoked; in front of it, the first such one
 abbrev pub early_numbers : List Operation → Option (ℕ × ℕ)
 early_numbers [] = None
 early_numbers (op ∷ later) =
-    option_or (option_map (λ (next : Operation). (next.number, op.number)) (find (λ next. returned_before op.invoked next.end) later)) (early_numbers later)
+    option_or (option_map (λ earlier. (earlier, op.number)) (returned_number op.invoked later)) (early_numbers later)
 
 -- the register holds the value
 abbrev pub is_held : Option (List ℕ) → List ℕ → Bool
@@ -89,6 +93,11 @@ return_step (Pending phase have need) = 18446744073709551615
 abbrev pub earliest_return : List Operation → ℕ
 earliest_return [] = 18446744073709551615
 earliest_return (op ∷ later) = min (return_step op.end) (earliest_return later)
+
+-- the first finished operation of the key whose number has no mark
+abbrev pub unmarked_number : List Operation → List ℕ → List Bool → Option ℕ
+unmarked_number history key marks =
+    option_map (λ (op : Operation). op.number) (find (λ op. (is_of_key key op && is_finished op.end) && not (slice_index_or marks op.number false)) history)
 
 -- a mark for each number up to the count: true where it is listed
 pub record IsMarked (count : ℕ) (numbers : List ℕ) (marks : List Bool) : Type 0 where

@@ -45,7 +45,9 @@ ghost use Rattle.hy_order.specs.Violation.{
   early_part,
   earliest_return,
   return_step,
+  returned_number,
   tells_register,
+  unmarked_number,
   wrong_number,
   IsMarked,
 };
@@ -79,13 +81,22 @@ pub fn check(alloc: Global, history: &History, order: &Order) -> Result<Verdict,
     ensures verdict { IfOk result (λ verdict. verdict ≡ first_violation history.now order.now.key order.now.ops) }
     ensures legal { IfOk result (λ verdict. (verdict ≡ Verdict.Legal) ↔ IsLinearization history.now order.now.key order.now.ops) }
 {
-    let ops = history.items();
-    let numbers = order.ops.items();
-    let marks = marks_of(alloc, ops.len(), numbers)?;
-    if let Some(number) = first_missing(ops, &order.key, &marks) {
+    verdict_on(alloc, history.items(), &order.key, order.ops.items())
+}
+
+/// An order has no violation exactly where it is a linearization.
+pub fn legal_exactly_for_linearizations()
+    ensures { (history : List Operation) (key order : List ℕ) → (first_violation history key order ≡ Verdict.Legal) ↔ IsLinearization history key order }
+{}
+
+fn verdict_on(alloc: Global, ops: &[Operation], key: &Key, numbers: &[u32]) -> Result<Verdict, NoMemory>
+    requires { IsNumberedFrom 1 ops.now }
+    ensures { IfOk result (λ verdict. verdict ≡ first_violation ops.now key.now numbers.now) }
+{
+    if let Some(number) = first_missing(alloc, ops, key, numbers)? {
         return Ok(Verdict::Missing(number));
     }
-    if let Some(number) = first_stranger(ops, &order.key, numbers) {
+    if let Some(number) = first_stranger(ops, key, numbers) {
         return Ok(Verdict::Stranger(number));
     }
     if let Some(number) = first_repeated(alloc, ops.len(), numbers)? {
@@ -101,10 +112,13 @@ pub fn check(alloc: Global, history: &History, order: &Order) -> Result<Verdict,
     })
 }
 
-/// An order has no violation exactly where it is a linearization.
-pub fn legal_exactly_for_linearizations()
-    ensures { (history : List Operation) (key order : List ℕ) → (first_violation history key order ≡ Verdict.Legal) ↔ IsLinearization history key order }
-{}
+fn first_missing(alloc: Global, ops: &[Operation], key: &Key, numbers: &[u32]) -> Result<Option<u32>, NoMemory>
+    requires { IsNumberedFrom 1 ops.now }
+    ensures { IfOk result (λ found. found ≡ missing_number ops.now key.now numbers.now) }
+{
+    let marks = marks_of(alloc, ops.len(), numbers)?;
+    Ok(first_unmarked(ops, key, &marks))
+}
 
 /// A mark for each number up to the count, at the place of the number: set where it is listed.
 fn marks_of(alloc: Global, count: usize, numbers: &[u32]) -> Result<Vec<bool>, NoMemory>
@@ -136,9 +150,9 @@ fn is_marked(marks: &[bool], number: u32) -> bool
     marks.get(number as usize).copied().unwrap_or(false)
 }
 
-fn first_missing(ops: &[Operation], key: &Key, marks: &[bool]) -> Option<u32>
-    requires { IsNumberedFrom 1 ops.now }
-    ensures { (order : List ℕ) → IsMarked (length ops.now) order marks.now → result ≡ missing_number ops.now key.now order }
+/// The number of the first finished operation of the key that is not marked as listed.
+fn first_unmarked(ops: &[Operation], key: &Key, marks: &[bool]) -> Option<u32>
+    ensures { result ≡ unmarked_number ops.now key.now marks.now }
 {
     ops.iter()
         .find(|op| is_of_key(op, key) && is_finished(&op.end) && !is_marked(marks, op.number))
@@ -209,8 +223,20 @@ fn first_early(listed: &[&Operation]) -> Option<(u32, u32)>
 {
     let start = early_start(listed);
     let (op, later) = listed[start..].split_first()?;
-    let earlier = later.iter().find(|next| has_returned_before(&next.end, op.invoked))?;
-    Some((earlier.number, op.number))
+    let earlier = first_returned_before(later, op.invoked)?;
+    Some((earlier, op.number))
+}
+
+/// The number of the first operation that returned before the step.
+fn first_returned_before(listed: &[&Operation], step: u64) -> Option<u32>
+    ensures { result ≡ returned_number step (map (λ op. op.now) listed.now) }
+{
+    for op in listed {
+        if has_returned_before(&op.end, step) {
+            return Some(op.number);
+        }
+    }
+    None
 }
 
 /// The place of the first operation behind which one stands that returned before it was invoked.
