@@ -9,7 +9,13 @@ use Rattle.hy_order.specs.declared.operation.End.{End}
 use Rattle.hy_order.specs.declared.operation.End.TheVariants.{Replied, Pending}
 use Rattle.hy_order.specs.declared.operation.Operation.{Operation}
 use Rattle.hy_order.specs.Linearization.{returned_before}
-use Rattle.hy_order.specs.Violation.{early_numbers, early_part, earliest_return, return_step, returned_number}
+use Rattle.hy_order.specs.Checking.{early_part, return_step}
+use Rattle.hy_order.specs.Violation.{early_numbers, returned_number}
+
+-- the step of the earliest return
+abbrev pub earliest_return : List Operation → ℕ
+earliest_return [] = 18446744073709551615
+earliest_return (op ∷ later) = min (return_step op.end) (earliest_return later)
 
 -- a return before the step is one of which the earliest is before it
 returned_before-return_step : (step : ℕ) (end : End) → step < 2 ^ 64 → returned_before step end ≡ ltb (return_step end) step

@@ -5,7 +5,8 @@ use Rattle.std.specs.List.{AllByRecursion, find, slice_get}
 use Rattle.hy_order.specs.declared.operation.Operation.{Operation}
 use Rattle.hy_order.specs.History.{IsNumberedFrom}
 use Rattle.hy_order.specs.Linearization.{is_finished, is_of_key, operation_at}
-use Rattle.hy_order.specs.Violation.{is_listed, is_member, missing_number, stranger_number, unmarked_number, IsMarked}
+use Rattle.hy_order.specs.Checking.{unmarked_number, IsMarked}
+use Rattle.hy_order.specs.Violation.{is_listed, is_member, missing_number, stranger_number}
 use Rattle.hy_order.proofs.Legal.{each, find_none}
 
 -- the operation of a number stands at its place

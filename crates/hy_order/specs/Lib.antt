@@ -4,3 +4,4 @@ pub mod Keys
 pub mod Report
 pub mod Words
 pub mod Violation
+pub mod Checking

@@ -1,5 +1,5 @@
 -- The first violation that keeps an order of a key from being a linearization.
-use Rattle.std.specs.Prelude.{◌≡◌, ℕ, ◌+◌, ◌<◌, ◌==◌, Bool, true, false, ◌&&◌, not, if◌then◌else◌, List, [], ◌∷◌, ◌++◌, Option, Some, None, is_some, is_none, length, min, slice_index_or}
+use Rattle.std.specs.Prelude.{ℕ, ◌==◌, Bool, true, false, ◌&&◌, not, if◌then◌else◌, List, [], ◌∷◌, ◌++◌, Option, Some, None, is_none}
 use Rattle.std.specs.List.{find, list_any}
 use Rattle.std.specs.Option.{option_map, option_or, option_map_or}
 use Rattle.std.specs.Str.{bytes_eq}
@@ -15,7 +15,7 @@ use Rattle.hy_order.specs.Linearization.{is_of_key, is_finished, may_be_listed, 
 abbrev pub is_listed : List ℕ → ℕ → Bool
 is_listed numbers number = list_any (λ other. other == number) numbers
 
--- the first finished operation of the key that the order does not list
+-- the least number of a finished operation of the key that the order does not list
 abbrev pub missing_number : List Operation → List ℕ → List ℕ → Option ℕ
 missing_number history key order =
     option_map (λ (op : Operation). op.number) (find (λ op. (is_of_key key op && is_finished op.end) && not (is_listed order op.number)) history)
@@ -25,11 +25,11 @@ abbrev pub is_member : List ℕ → Option Operation → Bool
 is_member key None = false
 is_member key (Some op) = is_of_key key op && may_be_listed op.action op.end
 
--- the first listed number that is not one of an operation which an order of the key may list
+-- the first listed number that is of no operation, or of one that an order of the key may not list
 abbrev pub stranger_number : List Operation → List ℕ → List ℕ → Option ℕ
 stranger_number history key order = find (λ number. not (is_member key (operation_at history number))) order
 
--- the first number that stands among the earlier ones or before itself
+-- the first number that stands among the earlier ones, or that stands twice
 abbrev pub repeated_behind : List ℕ → List ℕ → Option ℕ
 repeated_behind earlier [] = None
 repeated_behind earlier (number ∷ later) =
@@ -39,11 +39,11 @@ repeated_behind earlier (number ∷ later) =
 abbrev pub repeated_number : List ℕ → Option ℕ
 repeated_number order = repeated_behind [] order
 
--- the first operation that returned before the step
+-- the number of the first operation that returned before the step
 abbrev pub returned_number : ℕ → List Operation → Option ℕ
 returned_number step ops = option_map (λ (op : Operation). op.number) (find (λ op. returned_before step op.end) ops)
 
--- the first operation behind which one stands that returned before it was invoked; in front of it, the first such one
+-- for the first operation behind which one stands that returned before it was invoked: the number of the first such one, and its own
 abbrev pub early_numbers : List Operation → Option (ℕ × ℕ)
 early_numbers [] = None
 early_numbers (op ∷ later) =
@@ -63,13 +63,13 @@ tells_register held (Replied at (told.Exhausted stamp)) = true
 tells_register held (Replied at (told.Collected count)) = true
 tells_register held (Pending phase have need) = true
 
--- the first operation whose reply tells other than the register holds at its place
+-- the number of the first operation whose reply does not tell what the register holds at its place
 abbrev pub wrong_number : Option (List ℕ) → List Operation → Option ℕ
 wrong_number held [] = None
 wrong_number held (op ∷ later) =
     if tells_register held op.end then wrong_number (register_after op.action held) later else Some op.number
 
--- the first violation of the order of the key, in the order of the verdicts
+-- the first violation of an order of the key, in the order of the verdicts
 unfoldable pub first_violation : List Operation → List ℕ → List ℕ → Verdict
 first_violation history key order =
     option_map_or Missing (missing_number history key order)
@@ -77,29 +77,3 @@ first_violation history key order =
     (option_map_or Twice (repeated_number order)
     (option_map_or (λ (pair : ℕ × ℕ). Early pair.0 pair.1) (early_numbers (listed history order))
     (option_map_or Wrong (wrong_number None (listed history order)) Legal))))
-
--- the order from the first operation on behind which one stands that returned before it was invoked
-abbrev pub early_part : List Operation → List Operation
-early_part [] = []
-early_part (op ∷ later) =
-    if is_some (find (λ next. returned_before op.invoked next.end) later) then op ∷ later else early_part later
-
--- the step of the return, or the last step that there is
-abbrev pub return_step : End → ℕ
-return_step (Replied at reply) = at
-return_step (Pending phase have need) = 18446744073709551615
-
--- the step of the earliest return
-abbrev pub earliest_return : List Operation → ℕ
-earliest_return [] = 18446744073709551615
-earliest_return (op ∷ later) = min (return_step op.end) (earliest_return later)
-
--- the first finished operation of the key whose number has no mark
-abbrev pub unmarked_number : List Operation → List ℕ → List Bool → Option ℕ
-unmarked_number history key marks =
-    option_map (λ (op : Operation). op.number) (find (λ op. (is_of_key key op && is_finished op.end) && not (slice_index_or marks op.number false)) history)
-
--- a mark for each number up to the count: true where it is listed
-pub record IsMarked (count : ℕ) (numbers : List ℕ) (marks : List Bool) : Type 0 where
-  pub room : length marks ≡ count + 1
-  pub each : (number : ℕ) → number < length marks → slice_index_or marks number false ≡ is_listed numbers number

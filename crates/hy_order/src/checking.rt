@@ -9,6 +9,7 @@ ghost use Rattle.std.specs.Prelude.{
   ◌^◌,
   ℕ,
   List,
+  [],
   IfOk,
   Some,
   None,
@@ -35,21 +36,17 @@ ghost use Rattle.hy_order.specs.Linearization.{
   operation_at,
   listed,
 };
+ghost use Rattle.hy_order.specs.Checking.{early_part, return_step, unmarked_number, IsMarked};
 ghost use Rattle.hy_order.specs.Violation.{
   first_violation,
   missing_number,
   is_member,
   stranger_number,
   repeated_number,
-  early_numbers,
-  early_part,
-  earliest_return,
-  return_step,
   returned_number,
+  early_numbers,
   tells_register,
-  unmarked_number,
   wrong_number,
-  IsMarked,
 };
 
 use crate::history::History;
@@ -120,16 +117,23 @@ fn first_missing(alloc: Global, ops: &[Operation], key: &Key, numbers: &[u32]) -
     Ok(first_unmarked(ops, key, &marks))
 }
 
-/// A mark for each number up to the count, at the place of the number: set where it is listed.
+/// A mark for each number up to the count, at the place of that number: set where it is listed.
 fn marks_of(alloc: Global, count: usize, numbers: &[u32]) -> Result<Vec<bool>, NoMemory>
     requires { count < 2 ^ 63 }
     ensures { IfOk result (λ marks. IsMarked count numbers.now marks.items) }
 {
-    let mut marks = vec![in alloc; false; count + 1]?;
+    let mut marks = no_marks(alloc, count)?;
     for number in numbers {
         mark(&mut marks, *number);
     }
     Ok(marks)
+}
+
+fn no_marks(alloc: Global, count: usize) -> Result<Vec<bool>, NoMemory>
+    requires { count < 2 ^ 63 }
+    ensures { IfOk result (λ marks. IsMarked count [] marks.items) }
+{
+    Ok(vec![in alloc; false; count + 1]?)
 }
 
 /// Sets the mark of the number, where it has one.
@@ -194,7 +198,7 @@ fn first_repeated(alloc: Global, count: usize, numbers: &[u32]) -> Result<Option
     requires within { AllByRecursion (λ number. number ≤ count) numbers.now }
     ensures { IfOk result (λ found. found ≡ repeated_number numbers.now) }
 {
-    let mut marks = vec![in alloc; false; count + 1]?;
+    let mut marks = no_marks(alloc, count)?;
     for number in numbers {
         if is_marked(&marks, *number) {
             return Ok(Some(*number));

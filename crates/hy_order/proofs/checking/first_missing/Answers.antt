@@ -1,5 +1,5 @@
 use Rattle.std.proofs.Common.{ap, ◌∙◌}
-use Rattle.hy_order.specs.Violation.{unmarked_number}
+use Rattle.hy_order.specs.Checking.{unmarked_number}
 use Rattle.hy_order.proofs.Places.{unmarked-missing}
 use Rattle.hy_order.proofs.checking.first_missing.Goals as goal
 

@@ -1,5 +1,6 @@
 use Rattle.std.proofs.Common.{◌≡◌, drop, take}
-use Rattle.hy_order.specs.Violation.{IsMarked, repeated_behind, repeated_number}
+use Rattle.hy_order.specs.Checking.{IsMarked}
+use Rattle.hy_order.specs.Violation.{repeated_behind, repeated_number}
 use Rattle.hy_order.proofs.checking.first_repeated.Given as goal
 
 abbrev pub invariant-loop-number : goal.invariant-loop-number

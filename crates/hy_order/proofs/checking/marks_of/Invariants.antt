@@ -1,5 +1,5 @@
 use Rattle.std.proofs.Common.{take}
-use Rattle.hy_order.specs.Violation.{IsMarked}
+use Rattle.hy_order.specs.Checking.{IsMarked}
 use Rattle.hy_order.proofs.checking.marks_of.Given as goal
 
 abbrev pub invariant-loop-number : goal.invariant-loop-number
