@@ -1,18 +1,17 @@
 -- An order has no violation exactly where it is a linearization.
-use Rattle.std.proofs.Common.{◌≡◌, ℕ, suc, ◌+◌, ◌<◌, Bool, true, false, ◌&&◌, ◌||◌, not, cond, IsTrue, ◌↔◌, nat_eq, List, [], ◌∷◌, ◌++◌, Option, Some, None, is_none, Contains, refl, sym, ap, ◌∙◌, inl, inr, arith, eqb}
-use Rattle.std.proofs.lemmas.Bool.{and_from, and_left, and_right, and_parts, and_cases, or_cases, or_parts, or_from, or_left, or_right, cond-true, cond-false, not-false, not_from_true, eqb-true, eq-eqb, false≢true, cases_Bool}
+use Rattle.std.proofs.Common.{◌≡◌, ℕ, suc, Bool, true, false, ◌&&◌, ◌||◌, not, cond, IsTrue, ◌↔◌, nat_eq, List, [], ◌∷◌, ◌++◌, Option, Some, None, is_none, Contains, refl, sym, ap, ◌∙◌, inl, inr, arith, eqb}
+use Rattle.std.proofs.lemmas.Bool.{and_from, and_left, and_right, and_parts, and_cases, or_cases, or_parts, or_from, cond-true, cond-false, not-false, not_from_true, eqb-true, eq-eqb, false≢true, cases_Bool}
 use Rattle.std.proofs.lemmas.List.Folds.{list_any-append, list_any_at}
 use Rattle.std.specs.Cmp.Lexicographic.{bytes_decides}
-use Rattle.std.specs.List.{AllByRecursion, IsDistinct, find, list_any}
+use Rattle.std.specs.List.{AllByRecursion, IsDistinct, find}
 use Rattle.std.specs.Option.{option_map, option_or, option_map_or}
-use Rattle.std.specs.Str.{bytes_eq}
 use Rattle.hy_record.specs.declared.action.Reply.TheVariants as told
 use Rattle.hy_order.specs.declared.checking.Verdict.{Verdict}
 use Rattle.hy_order.specs.declared.checking.Verdict.TheVariants.{Legal, Missing, Stranger, Twice, Early, Wrong}
 use Rattle.hy_order.specs.declared.operation.End.{End}
 use Rattle.hy_order.specs.declared.operation.End.TheVariants.{Replied, Pending}
 use Rattle.hy_order.specs.declared.operation.Operation.{Operation}
-use Rattle.hy_order.specs.Linearization.{is_of_key, is_finished, may_be_listed, returned_before, register_after, operation_at, listed, IsMember, TellsRegister, ReadsRegister, RespectsRealTime, IsLinearization}
+use Rattle.hy_order.specs.Linearization.{is_of_key, is_finished, register_after, operation_at, listed, IsMember, TellsRegister, ReadsRegister, RespectsRealTime, IsLinearization}
 use Rattle.hy_order.specs.Violation.{is_listed, missing_number, is_member, stranger_number, repeated_behind, early_numbers, is_held, tells_register, wrong_number, first_violation}
 
 -- where a choice gives nothing
@@ -49,7 +48,7 @@ Contains-listed : (numbers : List ℕ) (number : ℕ) → is_listed numbers numb
 Contains-listed [] number there = absurd (false≢true there)
 Contains-listed (first ∷ numbers) number there =
     elim (or_cases (eqb first number) (is_listed numbers number) there) [
-      inl same ↦ (0, omega arith, eqb-true first number same)
+      | inl same ↦ (0, omega arith, eqb-true first number same)
       | inr later ↦ let found = Contains-listed numbers number later in (suc found.0, omega (arith, found.1), found.2)
     ]
 
@@ -65,14 +64,14 @@ module _ (key order : List ℕ) where
   complete-op : (op : Operation) → (is_due op && not (is_listed order op.number)) ≡ false → IsTrue (is_due op) → Contains order op.number
   complete-op op fails due =
       Contains-listed order op.number (elim (and_cases (is_due op) (not (is_listed order op.number)) fails) [
-        inl undue ↦ absurd (false≢true (sym undue ∙ due))
+        | inl undue ↦ absurd (false≢true (sym undue ∙ due))
         | inr known ↦ not-false _ known
       ])
 
   complete-op_from : (op : Operation) → (IsTrue (is_due op) → Contains order op.number) → (is_due op && not (is_listed order op.number)) ≡ false
   complete-op_from op there =
       elim (cases_Bool (is_due op)) [
-        inl due ↦ and_right (is_due op) _ (not_from_true _ (listed-Contains order op.number (there due)))
+        | inl due ↦ and_right (is_due op) _ (not_from_true _ (listed-Contains order op.number (there due)))
         | inr undue ↦ and_left _ _ undue
       ]
 
@@ -228,14 +227,14 @@ finds_nothing_legal history key order nothing =
 pub Legal-IsLinearization : (history : List Operation) (key order : List ℕ) → (first_violation history key order ≡ Legal) ↔ IsLinearization history key order
 Legal-IsLinearization history key order = (
   λ legal.
-  let nothing : FindsNothing history key order = finds_nothing history key order legal in
-  record {
-    complete = complete key order history nothing.missing;
-    members = members history key order nothing.stranger;
-    distinct = (fresh [] order nothing.twice).distinct;
-    real_time = real_time (listed history order) nothing.early;
-    reads = reads None (listed history order) nothing.wrong;
-  },
+      let nothing : FindsNothing history key order = finds_nothing history key order legal in
+      record {
+        complete = complete key order history nothing.missing;
+        members = members history key order nothing.stranger;
+        distinct = (fresh [] order nothing.twice).distinct;
+        real_time = real_time (listed history order) nothing.early;
+        reads = reads None (listed history order) nothing.wrong;
+      },
   λ known. finds_nothing_legal history key order (record {
     missing = complete_from key order history known.complete;
     stranger = members_from history key order known.members;

@@ -1,5 +1,5 @@
 -- Operations at the places that their numbers tell.
-use Rattle.std.proofs.Common.{◌≡◌, ℕ, zero, suc, ◌+◌, ◌<◌, ◌≤◌, ◌==◌, Bool, true, false, ◌&&◌, not, cond, List, [], ◌∷◌, length, Option, Some, None, option_map, refl, sym, ap, ◌∙◌, inl, inr, arith, eq-eqb, ne_eqb, get_or}
+use Rattle.std.proofs.Common.{◌≡◌, ℕ, zero, suc, ◌+◌, ◌<◌, ◌≤◌, ◌==◌, Bool, true, false, ◌&&◌, not, cond, List, [], ◌∷◌, length, Some, None, option_map, refl, sym, ap, ◌∙◌, inl, inr, arith, eq-eqb, ne_eqb, get_or}
 use Rattle.std.proofs.lemmas.Bool.{cases_lt, cond-true, cond-false, false≢true, not-false}
 use Rattle.std.specs.List.{AllByRecursion, find, slice_get}
 use Rattle.hy_order.specs.declared.operation.Operation.{Operation}
@@ -41,7 +41,7 @@ operation_at-beyond first (op ∷ ops) number numbered beyond =
 member_within : (ops : List Operation) (key : List ℕ) (number : ℕ) → IsNumberedFrom 1 ops → is_member key (operation_at ops number) ≡ true → number ≤ length ops
 member_within ops key number numbered member =
     elim (cases_lt (length ops) number) [
-      inl beyond ↦ absurd (false≢true (sym (ap (is_member key) (operation_at-beyond 1 ops number numbered (omega arith))) ∙ member))
+      | inl beyond ↦ absurd (false≢true (sym (ap (is_member key) (operation_at-beyond 1 ops number numbered (omega arith))) ∙ member))
       | inr within ↦ within
     ]
 

@@ -86,7 +86,12 @@ pub fn legal_exactly_for_linearizations()
     ensures { (history : List Operation) (key order : List ℕ) → (first_violation history key order ≡ Verdict.Legal) ↔ IsLinearization history key order }
 {}
 
-fn verdict_on(alloc: Global, ops: &[Operation], key: &Key, numbers: &[u32]) -> Result<Verdict, NoMemory>
+fn verdict_on(
+    alloc: Global,
+    ops: &[Operation],
+    key: &Key,
+    numbers: &[u32],
+) -> Result<Verdict, NoMemory>
     requires { IsNumberedFrom 1 ops.now }
     ensures { IfOk result (λ verdict. verdict ≡ first_violation ops.now key.now numbers.now) }
 {
@@ -109,7 +114,12 @@ fn verdict_on(alloc: Global, ops: &[Operation], key: &Key, numbers: &[u32]) -> R
     })
 }
 
-fn first_missing(alloc: Global, ops: &[Operation], key: &Key, numbers: &[u32]) -> Result<Option<u32>, NoMemory>
+fn first_missing(
+    alloc: Global,
+    ops: &[Operation],
+    key: &Key,
+    numbers: &[u32],
+) -> Result<Option<u32>, NoMemory>
     requires { IsNumberedFrom 1 ops.now }
     ensures { IfOk result (λ found. found ≡ missing_number ops.now key.now numbers.now) }
 {
@@ -209,7 +219,11 @@ fn first_repeated(alloc: Global, count: usize, numbers: &[u32]) -> Result<Option
 }
 
 /// The operations of the numbers, in the order of the list.
-fn operations_of<'a>(alloc: Global, ops: &'a [Operation], numbers: &[u32]) -> Result<Vec<&'a Operation>, NoMemory>
+fn operations_of<'a>(
+    alloc: Global,
+    ops: &'a [Operation],
+    numbers: &[u32],
+) -> Result<Vec<&'a Operation>, NoMemory>
     requires { IsNumberedFrom 1 ops.now }
     ensures { IfOk result (λ found. map (λ op. op.now) found.items ≡ listed ops.now numbers.now) }
 {

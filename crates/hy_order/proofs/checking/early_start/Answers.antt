@@ -20,15 +20,15 @@ loop-place-preserved c =
     record {
       within = elim c.if-earliest-op.branch [ then-earliest-op w ↦ omega arith | else-earliest-op w ↦ omega arith ];
       earliest =
-        c.min-earliest.ensures ∙ ap (min c.loop-place.earliest) c.return_step.ensures
-        ∙ earliest_return-more ops place c.loop-place.place c.loop-place.earliest op is_next within is c.loop-place.invariant.earliest;
+          c.min-earliest.ensures ∙ ap (min c.loop-place.earliest) c.return_step.ensures
+          ∙ earliest_return-more ops place c.loop-place.place c.loop-place.earliest op is_next within is c.loop-place.invariant.earliest;
       part =
-        elim c.if-earliest-op.branch [
-          then-earliest-op w ↦
-            ap (λ start. drop start ops) w.start-is
-            ∙ early_part-here ops place c.loop-place.place c.loop-place.earliest op is_next within is c.loop-place.invariant.earliest small w.if-earliest-op.true
-          | else-earliest-op w ↦
-            early_part-later ops place c.loop-place.place c.loop-place.earliest op is_next within is c.loop-place.invariant.earliest (drop c.if-earliest-op.start ops) small w.if-earliest-op.false
-            (ap (λ start. drop start ops) w.start-is ∙ c.loop-place.invariant.part)
-        ];
+          elim c.if-earliest-op.branch [
+            | then-earliest-op w ↦
+                ap (λ start. drop start ops) w.start-is
+                ∙ early_part-here ops place c.loop-place.place c.loop-place.earliest op is_next within is c.loop-place.invariant.earliest small w.if-earliest-op.true
+            | else-earliest-op w ↦
+                early_part-later ops place c.loop-place.place c.loop-place.earliest op is_next within is c.loop-place.invariant.earliest (drop c.if-earliest-op.start ops) small w.if-earliest-op.false
+                (ap (λ start. drop start ops) w.start-is ∙ c.loop-place.invariant.part)
+          ];
     }

@@ -1,4 +1,4 @@
-use Rattle.std.proofs.Common.{◌≡◌, [], ◌∷◌, List, Option, Some, None, option_map, ap, ◌∙◌, sym}
+use Rattle.std.proofs.Common.{◌≡◌, [], ◌∷◌, option_map, ap, ◌∙◌, sym}
 use Rattle.std.proofs.lemmas.List.{nil_from_length}
 use Rattle.hy_order.specs.Checking.{early_part}
 use Rattle.hy_order.proofs.Listed.{early_numbers-none, early_numbers-at, early_part-targets, targets}

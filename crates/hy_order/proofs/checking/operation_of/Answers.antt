@@ -1,4 +1,4 @@
-use Rattle.std.proofs.Common.{◌≡◌, Option, Some, None, option_copied, arith, rules, refl, ap, ◌∙◌, sym}
+use Rattle.std.proofs.Common.{◌≡◌, option_copied, arith, ap, ◌∙◌, sym}
 use Rattle.std.proofs.lemmas.Grind.{common_steps}
 use Rattle.std.proofs.lemmas.Option.{gets}
 use Rattle.std.specs.List.{slice_get}

@@ -41,11 +41,11 @@ returns c =
     let ordered : early_numbers (listed c.args.ops.now c.args.numbers.now) ≡ None = sym (c.in_default-first_early.ensures ∙ ap early_numbers ops) in
     let same : targets c.deref-2.result.now ≡ listed c.args.ops.now c.args.numbers.now = ap targets c.deref-2.ensures.value ∙ c.in_ok-listed.ensures in
     elim c.match-first_wrong.branch [
-      in-Some-first_wrong w ↦
-        w.result-is
-        ∙ Wrong-first c.args.ops.now c.args.key.now c.args.numbers.now w.in-Some-first_wrong.number complete members distinct ordered
-        (sym (w.in-Some-first_wrong.ensures ∙ ap (wrong_number None) same))
+      | in-Some-first_wrong w ↦
+          w.result-is
+          ∙ Wrong-first c.args.ops.now c.args.key.now c.args.numbers.now w.in-Some-first_wrong.number complete members distinct ordered
+          (sym (w.in-Some-first_wrong.ensures ∙ ap (wrong_number None) same))
       | in-None w ↦
-        w.result-is
-        ∙ Legal-first c.args.ops.now c.args.key.now c.args.numbers.now complete members distinct ordered (sym (w.in-None.ensures ∙ ap (wrong_number None) same))
+          w.result-is
+          ∙ Legal-first c.args.ops.now c.args.key.now c.args.numbers.now complete members distinct ordered (sym (w.in-None.ensures ∙ ap (wrong_number None) same))
     ]
