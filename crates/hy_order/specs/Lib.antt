@@ -3,3 +3,5 @@ pub mod Linearization
 pub mod Keys
 pub mod Report
 pub mod Words
+pub mod Violation
+pub mod Checking

@@ -1,6 +1,7 @@
 //! Histories of operations, their orders, and the report that tells both.
 #![tactic(auto)]
 
+mod checking;
 mod held;
 mod history;
 mod operation;
@@ -8,6 +9,7 @@ mod order;
 mod report;
 mod writing;
 
+pub use checking::{Verdict, check, legal_exactly_for_linearizations};
 pub use held::{Held, HeldList};
 pub use history::History;
 pub use operation::{End, Operation};

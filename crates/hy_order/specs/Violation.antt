@@ -1,0 +1,79 @@
+-- The first violation that keeps an order of a key from being a linearization.
+use Rattle.std.specs.Prelude.{ℕ, ◌==◌, Bool, true, false, ◌&&◌, not, if◌then◌else◌, List, [], ◌∷◌, ◌++◌, Option, Some, None, is_none}
+use Rattle.std.specs.List.{find, list_any}
+use Rattle.std.specs.Option.{option_map, option_or, option_map_or}
+use Rattle.std.specs.Str.{bytes_eq}
+use Rattle.hy_record.specs.declared.action.Reply.TheVariants as told
+use Rattle.hy_order.specs.declared.checking.Verdict.{Verdict}
+use Rattle.hy_order.specs.declared.checking.Verdict.TheVariants.{Legal, Missing, Stranger, Twice, Early, Wrong}
+use Rattle.hy_order.specs.declared.operation.End.{End}
+use Rattle.hy_order.specs.declared.operation.End.TheVariants.{Replied, Pending}
+use Rattle.hy_order.specs.declared.operation.Operation.{Operation}
+use Rattle.hy_order.specs.Linearization.{is_of_key, is_finished, may_be_listed, returned_before, register_after, operation_at, listed}
+
+-- the number stands in the list
+abbrev pub is_listed : List ℕ → ℕ → Bool
+is_listed numbers number = list_any (λ other. other == number) numbers
+
+-- the least number of a finished operation of the key that the order does not list
+abbrev pub missing_number : List Operation → List ℕ → List ℕ → Option ℕ
+missing_number history key order =
+    option_map (λ (op : Operation). op.number) (find (λ op. (is_of_key key op && is_finished op.end) && not (is_listed order op.number)) history)
+
+-- there is an operation, and an order of the key may list it
+abbrev pub is_member : List ℕ → Option Operation → Bool
+is_member key None = false
+is_member key (Some op) = is_of_key key op && may_be_listed op.action op.end
+
+-- the first listed number that is of no operation, or of one that an order of the key may not list
+abbrev pub stranger_number : List Operation → List ℕ → List ℕ → Option ℕ
+stranger_number history key order = find (λ number. not (is_member key (operation_at history number))) order
+
+-- the first number that stands among the earlier ones, or that stands twice
+abbrev pub repeated_behind : List ℕ → List ℕ → Option ℕ
+repeated_behind earlier [] = None
+repeated_behind earlier (number ∷ later) =
+    if is_listed earlier number then Some number else repeated_behind (earlier ++ number ∷ []) later
+
+-- the first listed number that stands earlier too
+abbrev pub repeated_number : List ℕ → Option ℕ
+repeated_number order = repeated_behind [] order
+
+-- the number of the first operation that returned before the step
+abbrev pub returned_number : ℕ → List Operation → Option ℕ
+returned_number step ops = option_map (λ (op : Operation). op.number) (find (λ op. returned_before step op.end) ops)
+
+-- for the first operation behind which one stands that returned before it was invoked: the number of the first such one, and its own
+abbrev pub early_numbers : List Operation → Option (ℕ × ℕ)
+early_numbers [] = None
+early_numbers (op ∷ later) =
+    option_or (option_map (λ earlier. (earlier, op.number)) (returned_number op.invoked later)) (early_numbers later)
+
+-- the register holds the value
+abbrev pub is_held : Option (List ℕ) → List ℕ → Bool
+is_held None value = false
+is_held (Some held) value = bytes_eq held value
+
+-- a reply that tells a value or its absence tells what the register holds
+abbrev pub tells_register : Option (List ℕ) → End → Bool
+tells_register held (Replied at (told.Value value stamp)) = is_held held value
+tells_register held (Replied at (told.Absent stamp)) = is_none held
+tells_register held (Replied at (told.Done stamp)) = true
+tells_register held (Replied at (told.Exhausted stamp)) = true
+tells_register held (Replied at (told.Collected count)) = true
+tells_register held (Pending phase have need) = true
+
+-- the number of the first operation whose reply does not tell what the register holds at its place
+abbrev pub wrong_number : Option (List ℕ) → List Operation → Option ℕ
+wrong_number held [] = None
+wrong_number held (op ∷ later) =
+    if tells_register held op.end then wrong_number (register_after op.action held) later else Some op.number
+
+-- the first violation of an order of the key, in the order of the verdicts
+unfoldable pub first_violation : List Operation → List ℕ → List ℕ → Verdict
+first_violation history key order =
+    option_map_or Missing (missing_number history key order)
+    (option_map_or Stranger (stranger_number history key order)
+    (option_map_or Twice (repeated_number order)
+    (option_map_or (λ (pair : ℕ × ℕ). Early pair.0 pair.1) (early_numbers (listed history order))
+    (option_map_or Wrong (wrong_number None (listed history order)) Legal))))
