@@ -1,8 +1,7 @@
 -- The product of x and an element.
-use Rattle.std.proofs.Common.{◌≡◌, ℕ, ◌+◌, ◌-◌, ◌*◌, ◌/◌, ◌%◌, ◌^◌, ◌<◌, ◌≤◌, Bool, true, cond, eqb, ltb, refl, sym, ap, ◌∙◌, arith, lit<}
+use Rattle.std.proofs.Common.{◌≡◌, ℕ, ◌+◌, ◌-◌, ◌*◌, ◌/◌, ◌^◌, ◌<◌, ◌≤◌, Bool, true, cond, eqb, ltb, refl, sym, ap, ◌∙◌, arith, lit<}
 use Rattle.std.specs.Int.Bits.{bit_xor, xor_disjoint}
 use lib.Bits.{bit_and}
-use Rattle.std.specs.Int.{bit_at}
 use Rattle.std.proofs.lemmas.Nat.{and_mask, shr-shr, shr_le}
 use Rattle.std.proofs.lemmas.Bool.{eqb-true, lt-ltb, le-ltb, cond-true, cond-false}
 use Rattle.hy_gf.specs.Gf.{gf_product, polynomial_product, remainder}

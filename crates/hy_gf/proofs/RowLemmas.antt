@@ -1,5 +1,5 @@
 -- A row added byte by byte.
-use Rattle.std.proofs.Common.{◌≡◌, ℕ, zero, suc, ◌+◌, ◌<◌, List, [], ◌∷◌, length, get_or, take, set, refl, sym, ap, ◌∙◌, arith, add-one}
+use Rattle.std.proofs.Common.{◌≡◌, ℕ, zero, suc, ◌+◌, ◌<◌, List, [], ◌∷◌, length, get_or, take, set, refl, ap, arith, add-one}
 use Rattle.hy_gf.specs.Gf.{gf_sum, gf_product}
 use Rattle.hy_gf.specs.Row.{row_sum}
 

@@ -1,6 +1,6 @@
 -- The field of 256 elements: bit polynomials modulo x^8 + x^4 + x^3 + x^2 + 1.
 -- A number stands for the polynomial over bits whose coefficient of x^i is the number's bit i.
-use Rattle.std.specs.Prelude.{ℕ, zero, suc, ◌+◌, ◌*◌, ◌^◌, ◌<◌, ◌==◌, Bool, bit_xor, find, unwrap_or}
+use Rattle.std.specs.Prelude.{ℕ, zero, suc, ◌+◌, ◌*◌, ◌^◌, ◌<◌, ◌==◌, bit_xor, find, unwrap_or}
 use Rattle.std.specs.Int.{bit_at}
 use Rattle.std.specs.List.{range_with_len}
 

@@ -1,5 +1,7 @@
 //! Products and rows against values from outside.
 
+ghost use Rattle.std.specs.Prelude.{◌≢◌};
+
 use super::*;
 
 // The powers of 2, from x^0 to x^254: a script in Python multiplied polynomials as lists of coefficients,

@@ -1,6 +1,5 @@
-use Rattle.std.proofs.Common.{◌≡◌, ◌<◌, length, sym, ap, ◌∙◌, arith, set, ℕ, List, take, get_or, ◌+◌}
+use Rattle.std.proofs.Common.{◌≡◌, sym, ap, ◌∙◌, arith, set, get_or}
 use Rattle.hy_gf.specs.Gf.{gf_sum, gf_product}
-use Rattle.hy_gf.specs.Row.{row_sum}
 use Rattle.hy_gf.proofs.RowLemmas.{row_sum-take_more}
 use Rattle.hy_gf.proofs.row.mul_add.Goals as goal
 

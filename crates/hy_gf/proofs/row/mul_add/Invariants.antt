@@ -1,4 +1,4 @@
-use Rattle.std.proofs.Common.{◌≡◌, take, drop, ◌++◌}
+use Rattle.std.proofs.Common.{◌≡◌, take}
 use Rattle.hy_gf.specs.Row.{row_sum}
 use Rattle.hy_gf.proofs.row.mul_add.Given as goal
 

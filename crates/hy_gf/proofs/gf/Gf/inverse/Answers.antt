@@ -1,4 +1,4 @@
-use Rattle.std.proofs.Common.{◌≡◌, ◌<◌, ◌∙◌, sym, ap, rules, arith, refl, add-one, ℕ, ◌+◌, ◌≤◌}
+use Rattle.std.proofs.Common.{◌≡◌, ◌∙◌, ap, rules, arith, refl, add-one, ℕ, ◌+◌, ◌≤◌}
 use Rattle.hy_gf.specs.Gf.{gf_product}
 use Rattle.hy_gf.specs.GfLaws.{square, squares, squares-inverse, squares-below}
 use Rattle.hy_gf.proofs.gf.Gf.inverse.Goals as goal

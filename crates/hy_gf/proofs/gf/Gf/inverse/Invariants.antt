@@ -1,4 +1,4 @@
-use Rattle.std.proofs.Common.{◌≡◌, ◌<◌}
+use Rattle.std.proofs.Common.{◌≡◌}
 use Rattle.hy_gf.specs.GfLaws.{square, squares}
 use Rattle.hy_gf.proofs.gf.Gf.inverse.Given as goal
 

@@ -1,4 +1,4 @@
-use Rattle.std.proofs.Common.{◌≡◌, ◌<◌, ◌∙◌, sym, ap, rules, arith}
+use Rattle.std.proofs.Common.{◌<◌, ◌∙◌, sym, ap, rules, arith}
 use Rattle.hy_gf.specs.Gf.{gf_product}
 use Rattle.hy_gf.specs.GfLaws.{zero-product}
 use Rattle.hy_gf.proofs.Doubling.{bit_clear, bit_set, bits_all}
