@@ -1,8 +1,9 @@
 -- The field of 256 elements: bit polynomials modulo x^8 + x^4 + x^3 + x^2 + 1.
 -- A number stands for the polynomial over bits whose coefficient of x^i is the number's bit i.
-use Rattle.std.specs.Prelude.{ℕ, zero, suc, ◌+◌, ◌*◌, ◌^◌, ◌<◌, ◌==◌, bit_xor, find, unwrap_or}
+use Rattle.std.specs.Prelude.{◌≡◌, ℕ, zero, suc, ◌+◌, ◌*◌, ◌^◌, ◌<◌, ◌==◌, bit_xor, find, unwrap_or}
 use Rattle.std.specs.Int.{bit_at}
 use Rattle.std.specs.List.{range_with_len}
+use Rattle.hy_gf.specs.Field.{Operations}
 
 -- an element is a polynomial of degree below 8, which is a byte
 abbrev pub IsElement : ℕ → Type 0
@@ -27,6 +28,11 @@ unfoldable pub remainder : ℕ → ℕ → ℕ
 remainder zero p = p
 remainder (suc i) p = remainder i (bit_xor p (bit_at p (8 + i) * (modulus * 2 ^ i)))
 
+-- division by the modulus leaves `rest` of `p`: an element that differs from `p` by a multiple of the modulus
+pub record IsRemainder (p rest : ℕ) : Type 0 where
+  pub element : IsElement rest
+  pub multiple : (q : ℕ) × (p ≡ gf_sum (polynomial_product 7 q modulus) rest)
+
 -- the product of two elements: what the modulus leaves of the product of the polynomials
 unfoldable pub gf_product : ℕ → ℕ → ℕ
 gf_product a b = remainder 7 (polynomial_product 8 a b)
@@ -34,3 +40,13 @@ gf_product a b = remainder 7 (polynomial_product 8 a b)
 -- the element whose product with `a` is 1
 unfoldable pub gf_inverse : ℕ → ℕ
 gf_inverse a = unwrap_or (find (λ b. gf_product a b == 1) (range_with_len 0 256)) 0
+
+-- what is computed in the field of 256 elements
+abbrev pub gf : Operations ℕ
+gf = record {
+  zero = 0;
+  one = 1;
+  sum = gf_sum;
+  product = gf_product;
+  inverse = gf_inverse;
+}

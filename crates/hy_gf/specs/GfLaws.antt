@@ -1,15 +1,15 @@
 -- The field of 256 elements is a field: products are linear on both sides, so its laws are computed on powers of x.
 use Rattle.std.proofs.Common.{lit<, Some, true, ◌≡◌, ◌≢◌, ℕ, zero, suc, ◌+◌, ◌-◌, ◌*◌, ◌%◌, ◌^◌, ◌<◌, ◌≤◌, Bool, eqb, ltb, refl, sym, ap, ◌∙◌, arith, inl, inr}
-use Rattle.std.proofs.Math.Nat.{add-zero, zero-add, one-mul, zero-mul, pow-suc}
+use Rattle.std.proofs.Math.Nat.{add-zero, zero-add, one-mul, zero-mul, pow-suc, sub_self}
 use Rattle.std.specs.Int.Bits.{bit_xor, xor_assoc, xor_self, xor_zero_r}
 use Rattle.std.specs.Int.{bit_at}
-use Rattle.std.proofs.lemmas.Nat.{xor_comm, xor_block, xor_of_8, pow_pos}
-use Rattle.std.proofs.lemmas.Nat.Bits.{bit_at_xor, bit_at-lt}
+use Rattle.std.proofs.lemmas.Nat.{xor_comm, xor_block, xor_of_8, pow_pos, mul-add-lt}
+use Rattle.std.proofs.lemmas.Nat.Bits.{bit_at_xor, bit_at-lt, bit_at_cat_low, bit_at_cat_high}
 use Rattle.std.proofs.lemmas.Bool.{agree_below, agree_below_at, cases_lt, cases_Bool, cond-true, cond-false, false≢true, eqb-true, eq-eqb, ltb-true}
 use Rattle.std.specs.List.{find, range_with_len}
 use Rattle.std.specs.Option.{unwrap_or}
 use Rattle.hy_gf.specs.Field.{IsField}
-use Rattle.hy_gf.specs.Gf.{IsElement, gf_sum, gf_inverse, modulus, polynomial_product, remainder, gf_product}
+use Rattle.hy_gf.specs.Gf.{gf, IsRemainder, IsElement, gf_inverse, modulus, polynomial_product, remainder, gf_product}
 
 -- ---- sums
 
@@ -170,6 +170,54 @@ product-below a b p q =
     (λ i h. below_on_powers (gf_product (2 ^ i)) (linear_right (2 ^ i)) 8
     (λ j g. ltb-true (gf_product (2 ^ i) (2 ^ j)) 256 (at_pair is_product_below powers_below i j h g)) b q) a p
 
+-- ---- the product is what division by the modulus leaves
+
+-- a product with a factor of few terms reads no other bits of it
+same_terms : (k a b y : ℕ) → ((i : ℕ) → i < k → bit_at a i ≡ bit_at b i) → polynomial_product k a y ≡ polynomial_product k b y
+unfolding polynomial_product
+same_terms zero a b y same = refl
+same_terms (suc k) a b y same =
+    ap (λ x. bit_xor x (bit_at a k * (y * 2 ^ k))) (same_terms k a b y (λ i h. same i (omega arith)))
+    ∙ ap (λ x. bit_xor (polynomial_product k b y) (x * (y * 2 ^ k))) (same k (omega arith))
+
+-- a factor with one more term on top
+top_term : (k t q y : ℕ) → t < 2 → q < 2 ^ k → polynomial_product (suc k) (t * 2 ^ k + q) y ≡ bit_xor (polynomial_product k q y) (t * (y * 2 ^ k))
+unfolding polynomial_product
+top_term k t q y small below =
+    ap (λ x. bit_xor x (bit_at (t * 2 ^ k + q) k * (y * 2 ^ k))) (same_terms k (t * 2 ^ k + q) q y (bit_at_cat_low t k q))
+    ∙ ap (λ x. bit_xor (polynomial_product k q y) (x * (y * 2 ^ k))) (bit_at_cat_high t k q k below (omega arith) ∙ top)
+  where
+    top : bit_at t (k - k) ≡ t
+    top = ap (bit_at t) (sub_self k) ∙ omega arith
+
+-- what is taken away while dividing is a multiple of the modulus
+multiple_of : (k p : ℕ) → (q : ℕ) × (q < 2 ^ k) × (p ≡ bit_xor (polynomial_product k q modulus) (remainder k p))
+unfolding polynomial_product remainder
+multiple_of zero p = (0, lit< tt, refl)
+multiple_of (suc k) p =
+    let t = bit_at p (8 + k) in
+    let term = t * (modulus * 2 ^ k) in
+    let rest = multiple_of k (bit_xor p term) in
+    let small : t < 2 = bit_at-lt p (8 + k) in
+    let left = remainder k (bit_xor p term) in (
+      t * 2 ^ k + rest.0,
+      omega (arith, mul-add-lt t (2 ^ k) rest.0 2 small rest.1, pow-suc 2 k),
+      sym (xor_zero_r p)
+          ∙ ap (bit_xor p) (sym (xor_self term))
+          ∙ sym (xor_assoc p term term)
+          ∙ ap (λ x. bit_xor x term) rest.2
+          ∙ xor_assoc (polynomial_product k rest.0 modulus) left term
+          ∙ ap (bit_xor (polynomial_product k rest.0 modulus)) (xor_comm left term)
+          ∙ sym (xor_assoc (polynomial_product k rest.0 modulus) term left)
+          ∙ ap (λ x. bit_xor x left) (sym (top_term k t rest.0 modulus small rest.1)),
+    )
+
+pub product_is_remainder : (a b : ℕ) → a < 256 → b < 256 → IsRemainder (polynomial_product 8 a b) (gf_product a b)
+unfolding gf_product
+product_is_remainder a b p q =
+    let multiple = multiple_of 7 (polynomial_product 8 a b) in
+    record { element = product-below a b p q; multiple = (multiple.0, multiple.2) }
+
 -- ---- products commute
 
 abbrev commute : ℕ → ℕ → Bool
@@ -301,6 +349,14 @@ product-inverse a p nonzero = (inverse_found a p nonzero).0
 pub inverse-below : (a : ℕ) → a < 256 → a ≢ 0 → gf_inverse a < 256
 inverse-below a p nonzero = (inverse_found a p nonzero).1
 
+inverse_of_zero : gf_inverse 0 ≡ 0
+unfolding gf_inverse gf_product polynomial_product remainder
+inverse_of_zero = refl
+
+inverse-element : (a : ℕ) → a < 256 → gf_inverse a < 256
+inverse-element zero p = rw inverse_of_zero (lit< tt)
+inverse-element (suc a) p = inverse-below (suc a) p (λ e. cc)
+
 -- no other element undoes `a`
 pub inverse_only : (a b : ℕ) → a < 256 → b < 256 → a ≢ 0 → gf_product a b ≡ 1 → b ≡ gf_inverse a
 inverse_only a b p q nonzero undoes =
@@ -325,13 +381,13 @@ quotient-product a b p q nonzero =
 
 -- ---- the laws
 
-pub gf_is_field : IsField IsElement 0 1 gf_sum gf_product gf_inverse
+pub gf_is_field : IsField IsElement gf
 gf_is_field = record {
   zero_element = lit< tt;
   one_element = lit< tt;
   sum_element = xor_of_8;
   product_element = product-below;
-  inverse_element = inverse-below;
+  inverse_element = inverse-element;
   one_zero = λ e. cc;
   sum_comm = λ a b p q. xor_comm a b;
   sum_assoc = λ a b c p q r. xor_assoc a b c;

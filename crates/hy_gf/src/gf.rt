@@ -1,7 +1,7 @@
 //! An element of the field of 256 elements, which contracts see as its byte.
 
 ghost use Rattle.std.specs.Prelude.{◌≡◌, ◌≢◌, ◌==◌, ℕ};
-ghost use Rattle.hy_gf.specs.Gf.{IsElement, gf_sum, gf_product, gf_inverse};
+ghost use Rattle.hy_gf.specs.Gf.{IsElement, IsRemainder, gf, gf_sum, polynomial_product, gf_product, gf_inverse};
 ghost use Rattle.hy_gf.specs.GfLaws.{gf_is_field};
 
 use crate::field::Field;
@@ -57,6 +57,7 @@ impl Gf {
     /// The product, formed bit by bit from the highest power of the second factor on.
     pub fn times(self, other: Gf) -> Gf
         ensures product { result ≡ gf_product self other }
+        ensures remainder { IsRemainder (polynomial_product 8 self other) result }
         ensures element { IsElement result }
     {
         let mut product = 0;
@@ -109,15 +110,7 @@ fn doubled(byte: u8) -> u8
 impl Field for Gf {
     ghost is_element = { IsElement };
 
-    ghost zero_value = { 0 };
-
-    ghost one_value = { 1 };
-
-    ghost sum = { gf_sum };
-
-    ghost product = { gf_product };
-
-    ghost inverse_of = { gf_inverse };
+    ghost field = { gf };
 
     ghost laws = { gf_is_field };
 

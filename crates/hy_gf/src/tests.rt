@@ -56,7 +56,7 @@ fn adds_a_row(rt: HostRuntime) {
 
 // (a + 1) / a, by the calls of the trait alone
 fn next_over<F: Field + Copy>(a: F) -> F
-    requires { a ≢ F.zero_value }
+    requires { a ≢ F.field.zero }
 {
     a.plus(F::one()).times(a.inverse()).plus(F::zero())
 }

@@ -1,6 +1,6 @@
-use Rattle.std.proofs.Common.{◌<◌, ◌∙◌, sym, ap, rules, arith}
-use Rattle.hy_gf.specs.Gf.{gf_product}
-use Rattle.hy_gf.specs.GfLaws.{zero-product}
+use Rattle.std.proofs.Common.{ℕ, subst, ◌<◌, ◌∙◌, sym, ap, rules, arith}
+use Rattle.hy_gf.specs.Gf.{IsRemainder, gf_product, polynomial_product}
+use Rattle.hy_gf.specs.GfLaws.{product_is_remainder, zero-product}
 use Rattle.hy_gf.proofs.Doubling.{bit_clear, bit_set, bits_all}
 use Rattle.hy_gf.proofs.gf.Gf.times.Goals as goal
 
@@ -29,3 +29,8 @@ returns-clause-product c =
     ∙ bits_all c.other.inside.0 c.loop-power.power c.self.inside.0 c.loop-power-test.false small p
     ∙ ap (gf_product c.self.inside.0) c.other.view_is
     ∙ ap (λ x. gf_product x c.args.other) c.self.view_is
+
+pub returns-clause-remainder : goal.returns-clause-remainder
+returns-clause-remainder c =
+    let R : ℕ → Type 0 = IsRemainder (polynomial_product 8 c.args.self c.args.other) in
+    subst R (sym (returns-clause-product c)) (product_is_remainder c.args.self c.args.other (search rules) (search rules))
