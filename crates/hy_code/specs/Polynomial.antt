@@ -7,6 +7,11 @@ abbrev pub value_at : {T : Type 0} → Operations T → List T → T → T
 value_at F [] x = F.zero
 value_at F (a ∷ p) x = F.sum a (F.product x (value_at F p x))
 
+-- each of the list is an element
+abbrev pub AreElements : {T : Type 0} → (T → Type 0) → List T → Type 0
+AreElements is_element [] = Unit {0}
+AreElements is_element (x ∷ xs) = is_element x × AreElements is_element xs
+
 -- no place of the list is x
 abbrev pub Differs : {T : Type 0} → T → List T → Type 0
 Differs x [] = Unit {0}
@@ -38,3 +43,9 @@ abbrev pub polynomial_through : {T : Type 0} → Operations T → List T → Lis
 polynomial_through F [] values = []
 polynomial_through F (x ∷ places) [] = []
 polynomial_through F (x ∷ places) (y ∷ values) = with_value F (polynomial_through F places (slopes F x y places values)) x y
+
+-- the polynomial interpolates the values, and no other one over the field does
+pub record IsOnlyPolynomial {T : Type 0} (is_element : T → Type 0) (F : Operations T) (p places values : List T) : Type 0 where
+  pub elements : AreElements is_element p
+  pub interpolates : Interpolates F p places values
+  pub only : (q : List T) → AreElements is_element q → Interpolates F q places values → q ≡ p
