@@ -20,4 +20,4 @@ pub value_at-element : (p : List ℕ) (x : ℕ) → AreElements IsElement p → 
 value_at-element [] x all here = gf_is_field.zero_element
 value_at-element (a ∷ p) x all here =
     gf_is_field.sum_element a (gf.product x (value_at gf p x)) all.0
-      (gf_is_field.product_element x (value_at gf p x) here (value_at-element p x all.1 here))
+    (gf_is_field.product_element x (value_at gf p x) here (value_at-element p x all.1 here))

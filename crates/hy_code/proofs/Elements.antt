@@ -2,8 +2,9 @@
 use Rattle.std.proofs.Common.{◌≡◌, ◌≢◌, ℕ, suc, List, [], ◌∷◌, length, map, refl, sym, ap, ◌∙◌, subst, arith, Bool, true, false, cond}
 use Rattle.std.specs.Coded.{le_prop}
 use mathlib.Core.HLevel.{Σ_prop_path}
+use Rattle.std.specs.List.{fold}
 use Rattle.hy_gf.specs.Field.{Operations, IsField}
-use Rattle.hy_code.specs.Weights.{weight, weighted_sum}
+use Rattle.hy_code.specs.Weights.{weight, weight_step, weighted_sum}
 use Rattle.hy_code.specs.Polynomial.{AreElements, Differs, AreDifferent, IsOnlyPolynomial, value_at, Interpolates, with_value, slopes, polynomial_through}
 use Rattle.hy_code.proofs.Interpolation as whole
 
@@ -103,8 +104,8 @@ module _ (T : Type 0) (is_element : T → Type 0) (F : Operations T) (field : Is
   values-polynomial_through (x ∷ places) (y ∷ ys) =
       values-with_value (polynomial_through elements places (slopes elements x y places ys)) x y
       ∙ ap (λ z. with_value F z x.0 y.0)
-        (values-polynomial_through places (slopes elements x y places ys)
-          ∙ ap (λ z. polynomial_through F (values places) z) (values-slopes x y places ys))
+      (values-polynomial_through places (slopes elements x y places ys)
+      ∙ ap (λ z. polynomial_through F (values places) z) (values-slopes x y places ys))
 
   values-map_value_at : (p places : List Element) → values (map (value_at elements p) places) ≡ map (value_at F (values p)) (values places)
   values-map_value_at p [] = refl
@@ -135,16 +136,16 @@ module _ (T : Type 0) (is_element : T → Type 0) (F : Operations T) (field : Is
       let interpolates = whole.interpolates Element elements whole_field places ys e here in
       let P : List T → Type 0 = λ r. IsOnlyPolynomial is_element F r (values places) (values ys) in
       subst P (values-polynomial_through places ys)
-        (record {
-          elements = values-elements p;
-          interpolates = interpolates-values p places ys interpolates;
-          only = λ q all h.
+      (record {
+        elements = values-elements p;
+        interpolates = interpolates-values p places ys interpolates;
+        only = λ q all h.
             let lifted = lift q all in
             let Q : List T → Type 0 = λ r. Interpolates F r (values places) (values ys) in
             sym (values-lift q all)
             ∙ ap values (whole.interpolates_only Element elements whole_field places ys lifted p here
-                (interpolates-lift lifted places ys (subst Q (sym (values-lift q all)) h)) interpolates);
-        })
+            (interpolates-lift lifted places ys (subst Q (sym (values-lift q all)) h)) interpolates);
+      })
 
   -- the polynomial through given points is the only one
   pub only_polynomial : (places ys : List T) → AreElements is_element places → AreElements is_element ys → length places ≡ length ys → AreDifferent places → IsOnlyPolynomial is_element F (polynomial_through F places ys) places ys
@@ -154,9 +155,9 @@ module _ (T : Type 0) (is_element : T → Type 0) (F : Operations T) (field : Is
       let lifted = lift places all_places in
       let lifted_ys = lift ys all_ys in
       let h : P (values lifted) (values lifted_ys) =
-        only_of_elements lifted lifted_ys
-          (sym (length-values lifted) ∙ ap length (values-lift places all_places) ∙ e ∙ sym (ap length (values-lift ys all_ys)) ∙ length-values lifted_ys)
-          (subst D (sym (values-lift places all_places)) different) in
+      only_of_elements lifted lifted_ys
+      (sym (length-values lifted) ∙ ap length (values-lift places all_places) ∙ e ∙ sym (ap length (values-lift ys all_ys)) ∙ length-values lifted_ys)
+      (subst D (sym (values-lift places all_places)) different) in
       let one : P places (values lifted_ys) = subst (λ ps. P ps (values lifted_ys)) (values-lift places all_places) h in
       subst (λ vs. P places vs) (values-lift ys all_ys) one
 
@@ -170,13 +171,15 @@ module _ (T : Type 0) (is_element : T → Type 0) (F : Operations T) (field : Is
     value-if true x y = refl
     value-if false x y = refl
 
+    value-fold : (places : List Element) (x t w : Element) → value (fold (weight_step elements same_values_test x t) w places) ≡ fold (weight_step F same (value x) (value t)) (value w) (values places)
+    value-fold [] x t w = refl
+    value-fold (m ∷ places) x t w =
+        let next = elements.product (elements.product w (elements.sum t m)) (elements.inverse (elements.sum x m)) in
+        value-fold places x t (cond (same m.0 x.0) w next)
+        ∙ ap (λ z. fold (weight_step F same (value x) (value t)) z (values places)) (value-if (same m.0 x.0) w next)
+
     value-weight : (places : List Element) (x t : Element) → value (weight elements same_values_test places x t) ≡ weight F same (values places) (value x) (value t)
-    value-weight [] x t = refl
-    value-weight (m ∷ places) x t =
-        let step = F.product (F.sum t.0 m.0) (F.inverse (F.sum x.0 m.0)) in
-        let rest = weight elements same_values_test places x t in
-        value-if (same m.0 x.0) rest (elements.product (elements.product (elements.sum t m) (elements.inverse (elements.sum x m))) rest)
-        ∙ ap (λ z. cond (same m.0 x.0) z (F.product step z)) (value-weight places x t)
+    value-weight places x t = value-fold places x t elements.one
 
     value-weighted_sum : (ws ys : List Element) → value (weighted_sum elements ws ys) ≡ weighted_sum F (values ws) (values ys)
     value-weighted_sum [] ys = refl
@@ -195,8 +198,8 @@ module _ (T : Type 0) (is_element : T → Type 0) (F : Operations T) (field : Is
         ap (λ r. value_at F r t.0) (sym (values-polynomial_through places ys))
         ∙ sym (value-value_at p t)
         ∙ ap value (whole.value_at-weights Element elements whole_field same_values_test
-            (λ x y h. same_false x.0 y.0 (λ same_value. h (same_element x y same_value))) (λ x. same_true x.0)
-            places ys t e (are_different places different))
+        (λ x y h. same_false x.0 y.0 (λ same_value. h (same_element x y same_value))) (λ x. same_true x.0)
+        places ys t e (are_different places different))
         ∙ value-weighted_sum (map (λ m. weight elements same_values_test places m t) places) ys
         ∙ ap (λ ws. weighted_sum F ws (values ys)) (values-weights places places t)
 
@@ -208,8 +211,8 @@ module _ (T : Type 0) (is_element : T → Type 0) (F : Operations T) (field : Is
         let lifted = lift places all_places in
         let lifted_ys = lift ys all_ys in
         let h : P (values lifted) (values lifted_ys) =
-          sum_of_elements lifted lifted_ys (t, here)
-            (sym (length-values lifted) ∙ ap length (values-lift places all_places) ∙ e ∙ sym (ap length (values-lift ys all_ys)) ∙ length-values lifted_ys)
-            (subst D (sym (values-lift places all_places)) different) in
+        sum_of_elements lifted lifted_ys (t, here)
+        (sym (length-values lifted) ∙ ap length (values-lift places all_places) ∙ e ∙ sym (ap length (values-lift ys all_ys)) ∙ length-values lifted_ys)
+        (subst D (sym (values-lift places all_places)) different) in
         let one : P places (values lifted_ys) = subst (λ ps. P ps (values lifted_ys)) (values-lift places all_places) h in
         subst (λ vs. P places vs) (values-lift ys all_ys) one

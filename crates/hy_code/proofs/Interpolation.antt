@@ -1,14 +1,14 @@
 -- Interpolation over a field whose values are all elements.
 use Rattle.std.proofs.Common.{◌≡◌, ◌≢◌, ℕ, zero, suc, List, [], ◌∷◌, length, map, refl, sym, ap, ◌∙◌, arith, Bool, true, false, cond}
 use Rattle.std.proofs.lemmas.Bool.{cond-true, cond-false}
+use Rattle.std.specs.List.{fold}
 use Rattle.hy_gf.specs.Field.{Operations, IsField}
-use Rattle.hy_code.specs.Weights.{weight, weighted_sum}
+use Rattle.hy_code.specs.Weights.{weight, weight_step, weighted_sum}
 use Rattle.hy_code.specs.Polynomial.{Differs, AreDifferent, value_at, Interpolates, with_value, slopes, polynomial_through}
 
 module _ (T : Type 0) (F : Operations T) (field : IsField (λ (x : T). Unit {0}) F) where
   infixl 60 ◌⊕◌
   infixl 70 ◌⊗◌
-
   abbrev ◌⊕◌ : T → T → T
   a ⊕ b = F.sum a b
 
@@ -116,14 +116,14 @@ module _ (T : Type 0) (F : Operations T) (field : IsField (λ (x : T). Unit {0})
       let u = value_at F (b ∷ p) y in
       let q = value_at F (quotient p x) y in
       sym (product_sum (y ⊕ x) v (y ⊗ q)
-        ∙ ap (λ z. z ⊕ (y ⊕ x) ⊗ (y ⊗ q)) (sum_product y x v)
-        ∙ ap (λ z. (y ⊗ v ⊕ x ⊗ v) ⊕ z)
-          (product_swap (y ⊕ x) y q
-            ∙ ap (λ z. y ⊗ z) (sym (quotient-shifted p x y) ∙ sym (sum_common b (y ⊗ value_at F p y) (x ⊗ value_at F p x)))
-            ∙ product_sum y u v
-            ∙ sum_comm (y ⊗ u) (y ⊗ v))
-        ∙ sum_common (y ⊗ v) (x ⊗ v) (y ⊗ u)
-        ∙ sum_comm (x ⊗ v) (y ⊗ u))
+      ∙ ap (λ z. z ⊕ (y ⊕ x) ⊗ (y ⊗ q)) (sum_product y x v)
+      ∙ ap (λ z. (y ⊗ v ⊕ x ⊗ v) ⊕ z)
+      (product_swap (y ⊕ x) y q
+      ∙ ap (λ z. y ⊗ z) (sym (quotient-shifted p x y) ∙ sym (sum_common b (y ⊗ value_at F p y) (x ⊗ value_at F p x)))
+      ∙ product_sum y u v
+      ∙ sum_comm (y ⊗ u) (y ⊗ v))
+      ∙ sum_common (y ⊗ v) (x ⊗ v) (y ⊗ u)
+      ∙ sum_comm (x ⊗ v) (y ⊗ u))
 
   -- the difference of two values of a polynomial is a multiple of the difference of the places
   quotient-difference : (a : T) (p : List T) (x y : T) → value_at F (a ∷ p) y ⊕ value_at F (a ∷ p) x ≡ (y ⊕ x) ⊗ value_at F (quotient p x) y
@@ -148,7 +148,7 @@ module _ (T : Type 0) (F : Operations T) (field : IsField (λ (x : T). Unit {0})
       same_head a b p q x rest heads =
           let tail = x ⊗ value_at F q x in
           let same : a ≡ b =
-            sum_cancel tail a b (sum_comm tail a ∙ ap (λ r. a ⊕ x ⊗ value_at F r x) (sym rest) ∙ heads ∙ sum_comm b tail) in
+          sum_cancel tail a b (sum_comm tail a ∙ ap (λ r. a ⊕ x ⊗ value_at F r x) (sym rest) ∙ heads ∙ sum_comm b tail) in
           cc
 
   -- where two polynomials agree, so do their quotients
@@ -158,11 +158,11 @@ module _ (T : Type 0) (F : Operations T) (field : IsField (λ (x : T). Unit {0})
       let at_m : value_at F (a ∷ p) m ≡ value_at F (b ∷ q) m = cc in
       let rest : map (value_at F (a ∷ p)) places ≡ map (value_at F (b ∷ q)) places = cc in
       let first : value_at F (quotient p x) m ≡ value_at F (quotient q x) m =
-        product_cancel (m ⊕ x) (value_at F (quotient p x) m) (value_at F (quotient q x) m) (differ m x different.0)
-          (sym (quotient-difference a p x m)
-            ∙ ap (λ z. z ⊕ value_at F (a ∷ p) x) at_m
-            ∙ ap (λ z. value_at F (b ∷ q) m ⊕ z) here
-            ∙ quotient-difference b q x m) in
+      product_cancel (m ⊕ x) (value_at F (quotient p x) m) (value_at F (quotient q x) m) (differ m x different.0)
+      (sym (quotient-difference a p x m)
+      ∙ ap (λ z. z ⊕ value_at F (a ∷ p) x) at_m
+      ∙ ap (λ z. value_at F (b ∷ q) m ⊕ z) here
+      ∙ quotient-difference b q x m) in
       let others = quotients_agree a b p q x here places different.1 rest in
       ap (λ z. z ∷ map (value_at F (quotient p x)) places) first
       ∙ ap (λ z. value_at F (quotient q x) m ∷ z) others
@@ -178,12 +178,12 @@ module _ (T : Type 0) (F : Operations T) (field : IsField (λ (x : T). Unit {0})
       let here : value_at F (a ∷ p) x ≡ value_at F (b ∷ q) x = cc in
       let rest : map (value_at F (a ∷ p)) places ≡ map (value_at F (b ∷ q)) places = cc in
       let quotients = agree places (quotient p x) (quotient q x) different.1
-        (length-quotient p x ∙ omega arith) (length-quotient q x ∙ omega arith)
-        (quotients_agree a b p q x here places different.0 rest) in
+      (length-quotient p x ∙ omega arith) (length-quotient q x ∙ omega arith)
+      (quotients_agree a b p q x here places different.0 rest) in
       let tails : p ≡ q = same_from_quotient p q x quotients in
       let tail = x ⊗ value_at F q x in
       let same : a ≡ b =
-        sum_cancel tail a b (sum_comm tail a ∙ ap (λ r. a ⊕ x ⊗ value_at F r x) (sym tails) ∙ here ∙ sum_comm b tail) in
+      sum_cancel tail a b (sum_comm tail a ∙ ap (λ r. a ⊕ x ⊗ value_at F r x) (sym tails) ∙ here ∙ sum_comm b tail) in
       cc
 
   -- ---- a polynomial through given points
@@ -200,10 +200,10 @@ module _ (T : Type 0) (F : Operations T) (field : IsField (λ (x : T). Unit {0})
       ∙ ap (λ z. (y ⊕ x ⊗ c) ⊕ z) (product_sum t c ((t ⊕ x) ⊗ v))
       ∙ sum_assoc y (x ⊗ c) (t ⊗ c ⊕ t ⊗ ((t ⊕ x) ⊗ v))
       ∙ ap (λ z. y ⊕ z)
-        (sym (sum_assoc (x ⊗ c) (t ⊗ c) (t ⊗ ((t ⊕ x) ⊗ v)))
-          ∙ ap (λ z. z ⊕ t ⊗ ((t ⊕ x) ⊗ v)) (sum_comm (x ⊗ c) (t ⊗ c) ∙ sym (sum_product t x c))
-          ∙ ap (λ z. (t ⊕ x) ⊗ c ⊕ z) (product_swap t (t ⊕ x) v)
-          ∙ sym (product_sum (t ⊕ x) c (t ⊗ v)))
+      (sym (sum_assoc (x ⊗ c) (t ⊗ c) (t ⊗ ((t ⊕ x) ⊗ v)))
+      ∙ ap (λ z. z ⊕ t ⊗ ((t ⊕ x) ⊗ v)) (sum_comm (x ⊗ c) (t ⊗ c) ∙ sym (sum_product t x c))
+      ∙ ap (λ z. (t ⊕ x) ⊗ c ⊕ z) (product_swap t (t ⊕ x) v)
+      ∙ sym (product_sum (t ⊕ x) c (t ⊗ v)))
 
   length-slopes : (x y : T) (places values : List T) → length places ≡ length values → length (slopes F x y places values) ≡ length places
   length-slopes x y [] values e = refl
@@ -226,10 +226,10 @@ module _ (T : Type 0) (F : Operations T) (field : IsField (λ (x : T). Unit {0})
       let slope : value_at F q m ≡ (v ⊕ y) ⊗ F.inverse (m ⊕ x) = cc in
       let rest : map (value_at F q) places ≡ slopes F x y places values = cc in
       let first : value_at F (with_value F q x y) m ≡ v =
-        value_at-with_value q x y m
-        ∙ ap (λ z. y ⊕ (m ⊕ x) ⊗ z) slope
-        ∙ ap (λ z. y ⊕ z) (product_undone (m ⊕ x) (v ⊕ y) (differ m x different.0) ∙ sum_comm v y)
-        ∙ sum_twice y v in
+      value_at-with_value q x y m
+      ∙ ap (λ z. y ⊕ (m ⊕ x) ⊗ z) slope
+      ∙ ap (λ z. y ⊕ z) (product_undone (m ⊕ x) (v ⊕ y) (differ m x different.0) ∙ sum_comm v y)
+      ∙ sum_twice y v in
       let others = values_from_slopes q x y places values (omega arith) different.1 rest in
       ap (λ z. z ∷ map (value_at F (with_value F q x y)) places) first ∙ ap (λ z. v ∷ z) others
 
@@ -240,12 +240,12 @@ module _ (T : Type 0) (F : Operations T) (field : IsField (λ (x : T). Unit {0})
   values-polynomial_through (x ∷ places) (y ∷ values) e different =
       let q = polynomial_through F places (slopes F x y places values) in
       let here : value_at F (with_value F q x y) x ≡ y =
-        value_at-with_value q x y x
-        ∙ ap (λ z. y ⊕ z ⊗ value_at F q x) (sum_self x)
-        ∙ ap (λ z. y ⊕ z) (zero_product (value_at F q x))
-        ∙ sum_zero y in
+      value_at-with_value q x y x
+      ∙ ap (λ z. y ⊕ z ⊗ value_at F q x) (sum_self x)
+      ∙ ap (λ z. y ⊕ z) (zero_product (value_at F q x))
+      ∙ sum_zero y in
       let others = values_from_slopes q x y places values (omega arith) different.0
-        (values-polynomial_through places (slopes F x y places values) (sym (length-slopes x y places values (omega arith))) different.1) in
+      (values-polynomial_through places (slopes F x y places values) (sym (length-slopes x y places values (omega arith))) different.1) in
       ap (λ z. z ∷ map (value_at F (with_value F q x y)) places) here ∙ ap (λ z. y ∷ z) others
 
   pub interpolates : (places values : List T) → length places ≡ length values → AreDifferent places → Interpolates F (polynomial_through F places values) places values
@@ -293,7 +293,7 @@ module _ (T : Type 0) (F : Operations T) (field : IsField (λ (x : T). Unit {0})
       let others : map (value_at F (a ∷ p)) places ≡ zeros places = cc in
       let q = quotient p m in
       let at : (z : T) → value_at F (a ∷ p) z ≡ (z ⊕ m) ⊗ value_at F q z =
-        λ z. sym (sum_zero (value_at F (a ∷ p) z)) ∙ ap (λ r. value_at F (a ∷ p) z ⊕ r) (sym root) ∙ quotient-difference a p m z in
+      λ z. sym (sum_zero (value_at F (a ∷ p) z)) ∙ ap (λ r. value_at F (a ∷ p) z ⊕ r) (sym root) ∙ quotient-difference a p m z in
       let ratio = from_roots places q x t (length-quotient p m ∙ omega arith) different.1 new.1 (roots_of_quotient m (a ∷ p) q at places different.0 others) in
       let s = steps places x t in
       let u = value_at F q x in
@@ -308,10 +308,10 @@ module _ (T : Type 0) (F : Operations T) (field : IsField (λ (x : T). Unit {0})
           product_assoc (d ⊗ F.inverse c) s (c ⊗ u)
           ∙ product_assoc d (F.inverse c) (s ⊗ (c ⊗ u))
           ∙ ap (λ z. d ⊗ z)
-            (ap (λ z. F.inverse c ⊗ z) (product_swap s c u)
-              ∙ product_swap (F.inverse c) c (s ⊗ u)
-              ∙ ap (λ z. c ⊗ z) (product_comm (F.inverse c) (s ⊗ u))
-              ∙ product_undone c (s ⊗ u) nonzero)
+          (ap (λ z. F.inverse c ⊗ z) (product_swap s c u)
+          ∙ product_swap (F.inverse c) c (s ⊗ u)
+          ∙ ap (λ z. c ⊗ z) (product_comm (F.inverse c) (s ⊗ u))
+          ∙ product_undone c (s ⊗ u) nonzero)
 
       roots_of_quotient : (m : T) (p q : List T) → ((z : T) → value_at F p z ≡ (z ⊕ m) ⊗ value_at F q z) → (places : List T) → Differs m places → map (value_at F p) places ≡ zeros places → map (value_at F q) places ≡ zeros places
       roots_of_quotient m p q at [] different roots = refl
@@ -319,7 +319,7 @@ module _ (T : Type 0) (F : Operations T) (field : IsField (λ (x : T). Unit {0})
           let root : value_at F p l ≡ F.zero = cc in
           let others : map (value_at F p) places ≡ zeros places = cc in
           let first : value_at F q l ≡ F.zero =
-            product_cancel (l ⊕ m) (value_at F q l) F.zero (differ l m different.0) (sym (at l) ∙ root ∙ sym (product_zero (l ⊕ m))) in
+          product_cancel (l ⊕ m) (value_at F q l) F.zero (differ l m different.0) (sym (at l) ∙ root ∙ sym (product_zero (l ⊕ m))) in
           ap (λ z. z ∷ map (value_at F q) places) first ∙ ap (λ z. F.zero ∷ z) (roots_of_quotient m p q at places different.1 others)
 
   abbrev dot : List T → List T → T
@@ -383,20 +383,20 @@ module _ (T : Type 0) (F : Operations T) (field : IsField (λ (x : T). Unit {0})
   value_at-weights_of (x ∷ places) [] t e different = absurd (omega arith)
   value_at-weights_of (x ∷ places) (y ∷ values) t e different =
       let known : (ys : List T) → length places ≡ length ys → value_at F (polynomial_through F places ys) t ≡ dot (weights_of places t) ys =
-        λ ys h. value_at-weights_of places ys t h different.1 in
+      λ ys h. value_at-weights_of places ys t h different.1 in
       let ws = with_step x t (weights_of places t) places in
       let p = polynomial_through F (x ∷ places) (F.one ∷ zeros places) in
       let through = interpolates (x ∷ places) (F.one ∷ zeros places) (ap suc (length-zeros places)) different in
       let at_x : value_at F p x ≡ F.one = heads through.takes in
       let roots : map (value_at F p) places ≡ zeros places = tails through.takes in
       let head : F.one ⊕ total ws ≡ steps places x t =
-        sym (one_more_place x F.one t places (zeros places) (length-zeros places) known
-          ∙ ap (λ z. (F.one ⊕ total ws) ⊗ F.one ⊕ z) (dot-zeros ws places)
-          ∙ sum_zero ((F.one ⊕ total ws) ⊗ F.one)
-          ∙ product_one (F.one ⊕ total ws))
-        ∙ from_roots places p x t through.degree different.1 different.0 roots
-        ∙ ap (λ z. steps places x t ⊗ z) at_x
-        ∙ product_one (steps places x t) in
+      sym (one_more_place x F.one t places (zeros places) (length-zeros places) known
+      ∙ ap (λ z. (F.one ⊕ total ws) ⊗ F.one ⊕ z) (dot-zeros ws places)
+      ∙ sum_zero ((F.one ⊕ total ws) ⊗ F.one)
+      ∙ product_one (F.one ⊕ total ws))
+      ∙ from_roots places p x t through.degree different.1 different.0 roots
+      ∙ ap (λ z. steps places x t ⊗ z) at_x
+      ∙ product_one (steps places x t) in
       one_more_place x y t places values (omega arith) known ∙ ap (λ z. z ⊗ y ⊕ dot ws values) head
     where
       heads : {a b : T} {r s : List T} → a ∷ r ≡ b ∷ s → a ≡ b
@@ -408,27 +408,52 @@ module _ (T : Type 0) (F : Operations T) (field : IsField (λ (x : T). Unit {0})
   -- ---- the same weights, by a test of equality
 
   module _ (same : T → T → Bool) (same_false : (a b : T) → a ≢ b → same a b ≡ false) (same_true : (a : T) → same a a ≡ true) where
-    weight-new : (places : List T) (x t : T) → Differs x places → weight F same places x t ≡ steps places x t
-    weight-new [] x t different = refl
-    weight-new (m ∷ places) x t different =
-        cond-false (same m x) (weight F same places x t) (step m x t ⊗ weight F same places x t) (same_false m x different.0)
-        ∙ ap (λ z. step m x t ⊗ z) (weight-new places x t different.1)
+    -- the weight, by recursion over the places
+    abbrev lagrange : List T → T → T → T
+    lagrange [] x t = F.one
+    lagrange (m ∷ places) x t = cond (same m x) (lagrange places x t) (step m x t ⊗ lagrange places x t)
 
-    weights-with_step : (x t : T) (places some : List T) → Differs x some → map (λ m. weight F same (x ∷ places) m t) some ≡ with_step x t (map (λ m. weight F same places m t) some) some
-    weights-with_step x t places [] different = refl
-    weights-with_step x t places (m ∷ some) different =
-        ap (λ z. z ∷ map (λ m. weight F same (x ∷ places) m t) some)
-          (cond-false (same x m) (weight F same places m t) (step x m t ⊗ weight F same places m t) (same_false x m (λ e. different.0 (sym e))))
-        ∙ ap (λ z. step x m t ⊗ weight F same places m t ∷ z) (weights-with_step x t places some different.1)
+    fold-weight_step : (places : List T) (x t w : T) → fold (weight_step F same x t) w places ≡ w ⊗ lagrange places x t
+    fold-weight_step [] x t w = sym (product_one w)
+    fold-weight_step (m ∷ places) x t w =
+        fold-weight_step places x t (weight_step F same x t w m) ∙ one_step (same m x) w (t ⊕ m) (F.inverse (x ⊕ m)) (lagrange places x t)
+      where
+        one_step : (b : Bool) (w d i l : T) → cond b w ((w ⊗ d) ⊗ i) ⊗ l ≡ w ⊗ cond b l ((d ⊗ i) ⊗ l)
+        one_step true w d i l = refl
+        one_step false w d i l =
+            product_assoc (w ⊗ d) i l ∙ product_assoc w d (i ⊗ l) ∙ ap (λ z. w ⊗ z) (sym (product_assoc d i l))
 
-    weights_are : (places : List T) (t : T) → AreDifferent places → map (λ m. weight F same places m t) places ≡ weights_of places t
-    weights_are [] t different = refl
-    weights_are (x ∷ places) t different =
-        ap (λ z. z ∷ map (λ m. weight F same (x ∷ places) m t) places)
-          (cond-true (same x x) (weight F same places x t) (step x x t ⊗ weight F same places x t) (same_true x) ∙ weight-new places x t different.0)
+    weight-lagrange : (places : List T) (x t : T) → weight F same places x t ≡ lagrange places x t
+    weight-lagrange places x t = fold-weight_step places x t F.one ∙ one_product (lagrange places x t)
+
+    lagrange-new : (places : List T) (x t : T) → Differs x places → lagrange places x t ≡ steps places x t
+    lagrange-new [] x t different = refl
+    lagrange-new (m ∷ places) x t different =
+        cond-false (same m x) (lagrange places x t) (step m x t ⊗ lagrange places x t) (same_false m x different.0)
+        ∙ ap (λ z. step m x t ⊗ z) (lagrange-new places x t different.1)
+
+    lagrange-with_step : (x t : T) (places some : List T) → Differs x some → map (λ m. lagrange (x ∷ places) m t) some ≡ with_step x t (map (λ m. lagrange places m t) some) some
+    lagrange-with_step x t places [] different = refl
+    lagrange-with_step x t places (m ∷ some) different =
+        ap (λ z. z ∷ map (λ m. lagrange (x ∷ places) m t) some)
+        (cond-false (same x m) (lagrange places m t) (step x m t ⊗ lagrange places m t) (same_false x m (λ e. different.0 (sym e))))
+        ∙ ap (λ z. step x m t ⊗ lagrange places m t ∷ z) (lagrange-with_step x t places some different.1)
+
+    lagrange_are : (places : List T) (t : T) → AreDifferent places → map (λ m. lagrange places m t) places ≡ weights_of places t
+    lagrange_are [] t different = refl
+    lagrange_are (x ∷ places) t different =
+        ap (λ z. z ∷ map (λ m. lagrange (x ∷ places) m t) places)
+        (cond-true (same x x) (lagrange places x t) (step x x t ⊗ lagrange places x t) (same_true x) ∙ lagrange-new places x t different.0)
         ∙ ap (λ z. steps places x t ∷ z)
-          (weights-with_step x t places places different.0 ∙ ap (λ ws. with_step x t ws places) (weights_are places t different.1))
+        (lagrange-with_step x t places places different.0 ∙ ap (λ ws. with_step x t ws places) (lagrange_are places t different.1))
+
+    weights_are : (all places : List T) (t : T) → map (λ m. weight F same all m t) places ≡ map (λ m. lagrange all m t) places
+    weights_are all [] t = refl
+    weights_are all (x ∷ places) t =
+        ap (λ z. z ∷ map (λ m. weight F same all m t) places) (weight-lagrange all x t)
+        ∙ ap (λ z. lagrange all x t ∷ z) (weights_are all places t)
 
     pub value_at-weights : (places values : List T) (t : T) → length places ≡ length values → AreDifferent places → value_at F (polynomial_through F places values) t ≡ weighted_sum F (map (λ m. weight F same places m t) places) values
     value_at-weights places values t e different =
-        value_at-weights_of places values t e different ∙ ap (λ ws. weighted_sum F ws values) (sym (weights_are places t different))
+        value_at-weights_of places values t e different
+        ∙ ap (λ ws. weighted_sum F ws values) (sym (lagrange_are places t different) ∙ sym (weights_are places places t))

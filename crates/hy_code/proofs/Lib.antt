@@ -1,3 +1,9 @@
+pub mod AnyParts
 pub mod Bytes
 pub mod Elements
 pub mod Interpolation
+pub mod Parts
+pub mod Ranges
+pub mod Refusals
+pub mod Rows
+pub mod Sums

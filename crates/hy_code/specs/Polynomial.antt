@@ -49,3 +49,10 @@ pub record IsOnlyPolynomial {T : Type 0} (is_element : T → Type 0) (F : Operat
   pub elements : AreElements is_element p
   pub interpolates : Interpolates F p places values
   pub only : (q : List T) → AreElements is_element q → Interpolates F q places values → q ≡ p
+
+-- through given elements at different places there is exactly one polynomial over the field
+abbrev pub OnePolynomial : {T : Type 0} → (T → Type 0) → Operations T → Type 0
+OnePolynomial {T} is_element F =
+    (places values : List T) →
+    AreElements is_element places → AreElements is_element values → length places ≡ length values → AreDifferent places →
+    IsOnlyPolynomial is_element F (polynomial_through F places values) places values

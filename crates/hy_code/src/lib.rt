@@ -1,4 +1,15 @@
-//! Values cut into fragments, of which any few rebuild the value.
+//! Values cut into fragments, one a cloud, of which any few rebuild the value.
 #![tactic(auto)]
 
-pub fn nothing() {}
+mod fault;
+mod fragments;
+mod laws;
+mod pick;
+mod rebuilding;
+mod row;
+
+pub use fault::RebuildFault;
+pub use fragments::{Fragments, split};
+pub use laws::{any_parts_rebuild, one_polynomial};
+pub use pick::Pick;
+pub use rebuilding::rebuild;
