@@ -7,7 +7,7 @@ use Rattle.std.proofs.lemmas.List.{get_or-take, length-map, length-take}
 use Rattle.std.proofs.lemmas.List.FromFn.{get_or-map-range_with_len, length-map-range_with_len, length-range_with_len}
 use Rattle.hy_gf.specs.Gf.{gf, IsElement}
 use Rattle.hy_code.proofs.Bytes.{only_polynomial, value_at-element}
-use Rattle.hy_code.proofs.Parts.{clouds-parts_of, range-different}
+use Rattle.hy_code.proofs.PartLemmas.{clouds-parts_of, range-different}
 use Rattle.hy_code.proofs.Ranges.{map-same, flat_map-same, rows_joined}
 use Rattle.hy_code.specs.Fragments.{AreFragments, AnyPartsRebuild, clouds, column, row_at, part_of, part_size, parts_of, fragment_of, rebuilt_value}
 use Rattle.hy_code.specs.Polynomial.{AreElements, AreDifferent, Interpolates, IsOnlyPolynomial, value_at, polynomial_through}

@@ -2,7 +2,7 @@ pub mod AnyParts
 pub mod Bytes
 pub mod Elements
 pub mod Interpolation
-pub mod Parts
+pub mod PartLemmas
 pub mod Ranges
 pub mod Refusals
 pub mod Rows

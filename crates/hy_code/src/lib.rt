@@ -4,6 +4,7 @@
 mod fault;
 mod fragments;
 mod laws;
+mod parts;
 mod pick;
 mod rebuilding;
 mod row;
@@ -13,3 +14,6 @@ pub use fragments::{Fragments, split};
 pub use laws::{any_parts_rebuild, one_polynomial};
 pub use pick::Pick;
 pub use rebuilding::rebuild;
+
+#[cfg(test)]
+mod tests;

@@ -3,11 +3,12 @@
 ghost use Rattle.std.specs.Prelude.{◌≡◌, ◌≤◌, ◌<◌, ◌==◌, ⊤, ℕ, List, [], length, take, All, Some, None, IfSome, IfOk, IfErr, MatchOption, Result, option_map};
 ghost use Rattle.std.specs.List.{list_any};
 ghost use Rattle.hy_gf.specs.Gf.{IsElement};
-ghost use Rattle.hy_code.specs.Fragments.{AreFragments, clouds, rebuilt_value, part_size, row_at};
+ghost use Rattle.hy_code.specs.Fragments.{AreFragments, clouds, part_size as part_size_of, rebuilt_value};
 ghost use Rattle.hy_code.specs.Polynomial.{AreDifferent, AreElements};
 ghost use Rattle.hy_code.specs.Refusal.{refusal, wrong_length as wrong_length_of, repeated_cloud as repeated_cloud_of};
 
 use crate::fault::RebuildFault;
+use crate::parts::part_size;
 use crate::pick::Pick;
 use crate::row::row;
 use hy_base::{Blob, MAX_K, MAX_VALUE, NoMemory};
@@ -29,15 +30,15 @@ pub fn rebuild(alloc: Global, size: u32, k: u8, picks: &Vec<Pick>) -> Result<Blo
     if picks.len() < used {
         return Err(RebuildFault::Few(picks.len()));
     }
-    let picks = &picks[..used];
-    let part_size = (size as usize).div_ceil(used);
-    if let Some(place) = wrong_length(part_size, picks) {
+    let first = &picks[..used];
+    let part_size = part_size(size as usize, k);
+    if let Some(place) = wrong_length(part_size, first) {
         return Err(RebuildFault::Length(place));
     }
-    if let Some(cloud) = repeated_cloud(picks) {
+    if let Some(cloud) = repeated_cloud(first) {
         return Err(RebuildFault::Twice(cloud));
     }
-    let value = parts_joined(alloc, size as usize, k, picks)?;
+    let value = parts_joined(alloc, size as usize, k, first)?;
     Ok(Blob::of(value))
 }
 
@@ -71,11 +72,11 @@ fn has_cloud(picks: &[Pick], cloud: u8) -> bool
 /// The first `size` bytes of the k parts that lie on the polynomials through the picks.
 fn parts_joined(alloc: Global, size: usize, k: u8, picks: &[Pick]) -> Result<Vec<u8>, NoMemory>
     requires one_part { 1 ≤ k }
-    requires sizes { All (λ pick. length pick.bytes ≡ part_size size k) picks.now }
+    requires sizes { All (λ pick. length pick.bytes ≡ part_size_of size k) picks.now }
     requires different { AreDifferent (clouds picks.now) }
     ensures { IfOk result (λ value. value.items ≡ rebuilt_value size k picks.now) }
 {
-    let part_size = size.div_ceil(k as usize);
+    let part_size = part_size(size, k);
     let mut value = Vec::new(alloc);
     for part in 0..k {
         let bytes = row(alloc, part_size, picks, part)?;

@@ -2,7 +2,7 @@ use Rattle.std.proofs.Common.{◌≡◌, ◌<◌, ◌∙◌, ℕ, List, sym, ap,
 use Rattle.hy_code.specs.declared.pick.Pick.{Pick}
 use Rattle.hy_code.specs.Fragments.{clouds, fragment_of, row_at, part_size, parts_of}
 use Rattle.hy_code.specs.Polynomial.{AreDifferent}
-use Rattle.hy_code.proofs.Parts.{parts_of-sized, parts_of-different}
+use Rattle.hy_code.proofs.PartLemmas.{parts_of-sized, parts_of-different}
 use Rattle.hy_code.proofs.Ranges.{pushed}
 use Rattle.hy_code.proofs.Refusals.{AreSized, AreSized-each}
 use Rattle.hy_code.proofs.fragments.split.Goals as goal
@@ -11,10 +11,10 @@ pub row-requires-clause-sizes : goal.row-requires-clause-sizes
 row-requires-clause-sizes c =
     let P : List Pick → ℕ → Type 0 = λ picks size. AreSized size picks in
     let all = c.deref.ensures.value ∙ c.in_ok-parts.ensures in
-    let sized : P c.deref.result.now c.div_ceil-size.result =
-    subst (λ size. P c.deref.result.now size) (sym c.div_ceil-size.ensures)
+    let sized : P c.deref.result.now c.part_size-size.result =
+    subst (λ size. P c.deref.result.now size) (sym c.part_size-size.ensures)
     (subst (λ picks. P picks (part_size (length c.args.value.now) c.args.k)) (sym all) (parts_of-sized c.args.value.now c.args.k)) in
-    AreSized-each c.div_ceil-size.result c.deref.result.now sized
+    AreSized-each c.part_size-size.result c.deref.result.now sized
 
 pub row-requires-clause-different : goal.row-requires-clause-different
 row-requires-clause-different c =
@@ -31,5 +31,5 @@ loop-cloud-preserved c =
     pushed (fragment_of c.args.value.now c.args.k) c.loop-cloud.cloud c.loop-cloud.rows.items _ c.of.result
     c.loop-cloud.invariant c.in_ok-push.ensures.items
     (c.of.ensures
-    ∙ row_is c.args.value.now c.args.k c.div_ceil-size.result c.loop-cloud.cloud c.deref.result.now c.in_ok-row.field-0.items
-    c.div_ceil-size.ensures (c.deref.ensures.value ∙ c.in_ok-parts.ensures) c.in_ok-row.ensures)
+    ∙ row_is c.args.value.now c.args.k c.part_size-size.result c.loop-cloud.cloud c.deref.result.now c.in_ok-row.field-0.items
+    c.part_size-size.ensures (c.deref.ensures.value ∙ c.in_ok-parts.ensures) c.in_ok-row.ensures)

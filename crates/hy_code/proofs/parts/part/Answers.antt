@@ -1,7 +1,7 @@
 use Rattle.std.proofs.Common.{◌+◌}
 use Rattle.std.specs.Prelude.{slice_index}
 use Rattle.hy_code.proofs.Ranges.{pushed}
-use Rattle.hy_code.proofs.fragments.part.Goals as goal
+use Rattle.hy_code.proofs.parts.part.Goals as goal
 
 pub loop-place-preserved : goal.loop-place-preserved
 loop-place-preserved c =
