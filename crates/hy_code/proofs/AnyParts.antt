@@ -35,7 +35,7 @@ map-range-elements f a (suc n) each = (each a, map-range-elements f (a + 1) n ea
 -- ---- the polynomial at a place of the parts
 
 -- the bytes of the parts at a place
-part_bytes : List ℕ → ℕ → ℕ → ℕ → List ℕ
+unfoldable pub part_bytes : List ℕ → ℕ → ℕ → ℕ → List ℕ
 part_bytes value size k place = map (λ number. slice_index value (number * size + place)) (range_with_len 0 k)
 
 column-parts : (value : List ℕ) (size place a n : ℕ) → place < size → column (map (part_of value size) (range_with_len a n)) place ≡ map (λ number. slice_index value (number * size + place)) (range_with_len a n)
@@ -46,11 +46,11 @@ column-parts value size place a (suc n) within =
     ∙ ap (λ z. slice_index value (a * size + place) ∷ z) (column-parts value size place (a + 1) n within)
 
 -- one polynomial holds the bytes of all fragments at a place
-place_polynomial : List ℕ → ℕ → ℕ → List ℕ
+unfoldable pub place_polynomial : List ℕ → ℕ → ℕ → List ℕ
 place_polynomial value k place =
     polynomial_through gf (range_with_len 0 k) (part_bytes value (part_size (length value) k) k place)
 
-byte_of_fragment : (value : List ℕ) (k i place : ℕ) → place < part_size (length value) k → slice_index (fragment_of value k i) place ≡ value_at gf (place_polynomial value k place) i
+pub byte_of_fragment : (value : List ℕ) (k i place : ℕ) → place < part_size (length value) k → slice_index (fragment_of value k i) place ≡ value_at gf (place_polynomial value k place) i
 unfolding fragment_of row_at parts_of place_polynomial part_bytes
 byte_of_fragment value k i place within =
     let size = part_size (length value) k in

@@ -1,6 +1,7 @@
 pub mod AnyParts
 pub mod Bytes
 pub mod Elements
+pub mod FragmentLaws
 pub mod Interpolation
 pub mod PartLemmas
 pub mod Ranges

@@ -1,4 +1,5 @@
-use Rattle.std.proofs.Common.{◌≡◌, ◌<◌, ◌∙◌, ℕ, List, sym, ap, subst, length}
+use Rattle.std.proofs.lemmas.List.FromFn.{length-map-range_with_len}
+use Rattle.std.proofs.Common.{◌≤◌, arith, ◌≡◌, ◌<◌, ◌∙◌, ℕ, List, sym, ap, subst, length}
 use Rattle.hy_code.specs.declared.pick.Pick.{Pick}
 use Rattle.hy_code.specs.Fragments.{clouds, fragment_of, row_at, part_size, parts_of}
 use Rattle.hy_code.specs.Polynomial.{AreDifferent}
@@ -33,3 +34,12 @@ loop-cloud-preserved c =
     (c.of.ensures
     ∙ row_is c.args.value.now c.args.k c.part_size-size.result c.loop-cloud.cloud c.deref.result.now c.in_ok-row.field-0.items
     c.part_size-size.ensures (c.deref.ensures.value ∙ c.in_ok-parts.ensures) c.in_ok-row.ensures)
+
+pub returns-clause-count : goal.returns-clause-count
+returns-clause-count c =
+    ap length c.loop-cloud.invariant
+    ∙ length-map-range_with_len (fragment_of c.args.value.now c.args.k) 0 c.loop-cloud.cloud
+    ∙ same c.loop-cloud.cloud c.args.n c.loop-cloud.auto.cloud-end c.loop-cloud-test.false
+  where
+    same : (a b : ℕ) → a ≤ b → b ≤ a → a ≡ b
+    same a b low high = omega arith
