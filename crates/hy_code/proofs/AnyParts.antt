@@ -1,7 +1,7 @@
 -- Any k fragments of a value rebuild it.
 use Rattle.std.proofs.Common.{◌≡◌, ℕ, zero, suc, ◌+◌, ◌*◌, ◌<◌, ◌≤◌, List, [], ◌∷◌, length, get_or, take, map, refl, sym, ap, ◌∙◌, arith, subst, lit<}
 use Rattle.std.specs.Prelude.{slice_index}
-use Rattle.std.specs.List.{flat_map, range_with_len}
+use Rattle.std.specs.List.{range_with_len}
 use Rattle.std.proofs.lemmas.Grind.{same_number_lists, div_ceil_times}
 use Rattle.std.proofs.lemmas.List.{get_or-take, length-map, length-take}
 use Rattle.std.proofs.lemmas.List.FromFn.{get_or-map-range_with_len, length-map-range_with_len, length-range_with_len}
@@ -10,7 +10,7 @@ use Rattle.hy_code.proofs.Bytes.{only_polynomial, value_at-element}
 use Rattle.hy_code.proofs.PartLemmas.{clouds-parts_of, range-different}
 use Rattle.hy_code.proofs.Ranges.{map-same, flat_map-same, rows_joined}
 use Rattle.hy_code.specs.Fragments.{AreFragments, AnyPartsRebuild, clouds, column, row_at, part_of, part_size, parts_of, fragment_of, rebuilt_value}
-use Rattle.hy_code.specs.Polynomial.{AreElements, AreDifferent, Interpolates, IsOnlyPolynomial, value_at, polynomial_through}
+use Rattle.hy_code.specs.Polynomial.{AreElements, IsOnlyPolynomial, value_at, polynomial_through}
 use Rattle.hy_code.specs.declared.pick.Pick.{Pick}
 
 -- ---- elements

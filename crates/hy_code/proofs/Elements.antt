@@ -1,6 +1,5 @@
 -- Interpolation over a field some of whose values are elements: the elements alone are a field of which all values are elements.
-use Rattle.std.proofs.Common.{◌≡◌, ◌≢◌, ℕ, suc, List, [], ◌∷◌, length, map, refl, sym, ap, ◌∙◌, subst, arith, Bool, true, false, cond}
-use Rattle.std.specs.Coded.{le_prop}
+use Rattle.std.proofs.Common.{◌≡◌, ◌≢◌, suc, List, [], ◌∷◌, length, map, refl, sym, ap, ◌∙◌, subst, Bool, true, false, cond}
 use mathlib.Core.HLevel.{Σ_prop_path}
 use Rattle.std.specs.List.{fold}
 use Rattle.hy_gf.specs.Field.{Operations, IsField}

@@ -1,12 +1,11 @@
 -- The parts of a value.
-use Rattle.std.proofs.Common.{◌≡◌, ◌≢◌, ℕ, zero, suc, ◌+◌, ◌*◌, ◌<◌, ◌≤◌, List, [], ◌∷◌, length, get_or, map, refl, sym, ap, ◌∙◌, arith, subst}
+use Rattle.std.proofs.Common.{◌≡◌, ℕ, zero, suc, ◌+◌, ◌*◌, ◌<◌, List, ◌∷◌, length, map, refl, sym, ap, arith, subst}
 use Rattle.std.proofs.lemmas.List.FromFn.{length-map-range_with_len}
 use Rattle.std.specs.List.{range_with_len}
 use Rattle.std.specs.Prelude.{slice_index}
 use Rattle.hy_code.specs.Fragments.{clouds, part_of, parts_of, part_size}
 use Rattle.hy_code.specs.Polynomial.{Differs, AreDifferent}
-use Rattle.hy_code.specs.declared.pick.Pick.{Pick}
-use Rattle.hy_code.proofs.Refusals.{AreSized, AreSized-each}
+use Rattle.hy_code.proofs.Refusals.{AreSized}
 
 sized : (value : List ℕ) (size a n : ℕ) → AreSized size (map (part_of value size) (range_with_len a n))
 sized value size a zero = tt

@@ -1,10 +1,10 @@
 -- Picks judged one after another.
-use Rattle.std.proofs.Common.{◌≢◌, ◌||◌, None, zero, suc, not, ◌≡◌, ℕ, ◌+◌, ◌<◌, List, [], ◌∷◌, ◌++◌, length, get_or, take, drop, refl, sym, ap, ◌∙◌, arith, Bool, true, false, cond, eqb, Option, Some, inl, inr}
-use Rattle.std.proofs.lemmas.Bool.{cond-true, cond-false, cases_Bool, or_parts, eqb-true, eqb-false, eq-eqb, true≢false, both_ways}
+use Rattle.std.proofs.Common.{◌≢◌, ◌||◌, None, zero, suc, not, ◌≡◌, ℕ, ◌+◌, ◌<◌, List, [], ◌∷◌, ◌++◌, length, get_or, take, drop, sym, ap, ◌∙◌, arith, true, false, cond, eqb, Option, Some, inl, inr}
+use Rattle.std.proofs.lemmas.Bool.{cond-true, cond-false, cases_Bool, or_parts, eqb-true, eqb-false}
 use Rattle.std.proofs.lemmas.List.Folds.{list_any-append}
 use Rattle.std.proofs.lemmas.List.{take_more, drop_more}
 use Rattle.std.specs.List.{list_any, position_from}
-use Rattle.hy_code.specs.Refusal.{repeated_cloud, wrong_length}
+use Rattle.hy_code.specs.Refusal.{repeated_cloud}
 use Rattle.hy_code.specs.Fragments.{clouds}
 use Rattle.hy_code.specs.Polynomial.{Differs, AreDifferent}
 use Rattle.hy_code.specs.declared.pick.Pick.{Pick}

@@ -1,6 +1,6 @@
 -- Sums of bytes.
-use Rattle.std.proofs.Common.{◌≡◌, ℕ, refl, sym, ap, ◌∙◌}
-use Rattle.std.specs.Int.Bits.{bit_xor, xor_assoc, xor_self, xor_zero_l, xor_zero_r}
+use Rattle.std.proofs.Common.{◌≡◌, ℕ, sym, ap, ◌∙◌}
+use Rattle.std.specs.Int.Bits.{bit_xor, xor_assoc, xor_self, xor_zero_r}
 
 -- two bytes whose sum is 0 are equal
 pub same_from_sum : (a b : ℕ) → bit_xor a b ≡ 0 → a ≡ b

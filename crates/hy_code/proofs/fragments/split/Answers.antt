@@ -1,5 +1,5 @@
 use Rattle.std.proofs.lemmas.List.FromFn.{length-map-range_with_len}
-use Rattle.std.proofs.Common.{◌≤◌, arith, ◌≡◌, ◌<◌, ◌∙◌, ℕ, List, sym, ap, subst, length}
+use Rattle.std.proofs.Common.{◌≤◌, arith, ◌≡◌, ◌∙◌, ℕ, List, sym, ap, subst, length}
 use Rattle.hy_code.specs.declared.pick.Pick.{Pick}
 use Rattle.hy_code.specs.Fragments.{clouds, fragment_of, row_at, part_size, parts_of}
 use Rattle.hy_code.specs.Polynomial.{AreDifferent}

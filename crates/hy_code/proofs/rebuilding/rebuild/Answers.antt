@@ -1,5 +1,4 @@
-use Rattle.std.proofs.Common.{◌≡◌, ◌≤◌, ◌∙◌, ℕ, List, sym, ap, subst, take, arith}
-use Rattle.hy_code.specs.declared.pick.Pick.{Pick}
+use Rattle.std.proofs.Common.{◌∙◌, ℕ, sym, ap, subst, take, arith}
 use Rattle.hy_code.specs.Fragments.{rebuilt_value}
 use Rattle.hy_code.proofs.AnyParts.{any_parts}
 use Rattle.hy_code.proofs.Refusals.{AreSized, AreSized-each, sized_from_none, different_from_none}

@@ -1,4 +1,4 @@
-use Rattle.std.proofs.Common.{◌≡◌, ◌<◌, ◌∙◌, sym, ap, arith, rules, subst, List, ℕ, get_or}
+use Rattle.std.proofs.Common.{◌<◌, ◌∙◌, ap, rules, subst, List, ℕ, get_or}
 use Rattle.std.proofs.lemmas.List.{take_all}
 use Rattle.hy_gf.specs.Row.{row_sum}
 use Rattle.hy_code.specs.declared.pick.Pick.{Pick}

@@ -1,5 +1,4 @@
-use Rattle.std.proofs.Common.{◌≡◌, ◌∙◌, sym, ap}
-use Rattle.std.specs.Int.Bits.{bit_xor}
+use Rattle.std.proofs.Common.{◌∙◌, sym}
 use Rattle.hy_code.proofs.Sums.{same_from_sum}
 use Rattle.hy_code.proofs.row.weight.Goals as goal
 
