@@ -1,0 +1,10 @@
+pub mod AnyParts
+pub mod Bytes
+pub mod Elements
+pub mod FragmentLaws
+pub mod Interpolation
+pub mod PartLemmas
+pub mod Ranges
+pub mod Refusals
+pub mod Rows
+pub mod Sums

@@ -1,0 +1,4 @@
+pub mod Fragments
+pub mod Polynomial
+pub mod Refusal
+pub mod Weights

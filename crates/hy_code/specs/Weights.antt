@@ -1,0 +1,19 @@
+-- The weights with which given values add up to the value at another place, after Lagrange.
+use Rattle.std.specs.Prelude.{Bool, List, [], ◌∷◌, if◌then◌else◌}
+use Rattle.std.specs.List.{fold}
+use Rattle.hy_gf.specs.Field.{Operations}
+
+-- a weight so far, times (target - m) / (x - m) where m is another place than x
+abbrev pub weight_step : {T : Type 0} → Operations T → (T → T → Bool) → T → T → T → T → T
+weight_step F same x target w m =
+    if same m x then w else F.product (F.product w (F.sum target m)) (F.inverse (F.sum x m))
+
+-- the weight of the value at x: the product of (target - m) / (x - m) over the other places m
+abbrev pub weight : {T : Type 0} → Operations T → (T → T → Bool) → List T → T → T → T
+weight F same places x target = fold (weight_step F same x target) F.one places
+
+-- the sum of the values, each times its weight
+abbrev pub weighted_sum : {T : Type 0} → Operations T → List T → List T → T
+weighted_sum F [] values = F.zero
+weighted_sum F (w ∷ weights) [] = F.zero
+weighted_sum F (w ∷ weights) (y ∷ values) = F.sum (F.product w y) (weighted_sum F weights values)

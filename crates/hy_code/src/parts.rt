@@ -1,0 +1,53 @@
+//! The parts that a value is cut into.
+
+ghost use Rattle.std.specs.Prelude.{◌≡◌, ◌<◌, ◌≤◌, IfOk, length, slice_index};
+ghost use Rattle.hy_code.specs.Fragments.{part_of, part_size as part_size_of, parts_of};
+
+use crate::pick::Pick;
+use hy_base::{Blob, MAX_N, MAX_VALUE, NoMemory};
+use std::alloc::Global;
+
+/// How many bytes each of k parts has.
+pub fn part_size(size: usize, k: u8) -> usize
+    requires { 1 ≤ k }
+    ensures { result ≡ part_size_of size k }
+{
+    size.div_ceil(k as usize)
+}
+
+/// The k parts of a value, each filled up with zeros.
+pub fn parts(alloc: Global, value: &[u8], k: u8) -> Result<Vec<Pick>, NoMemory>
+    requires one_part { 1 ≤ k }
+    requires parts_fit { k ≤ MAX_N }
+    requires size_fits { length value.now ≤ MAX_VALUE }
+    ensures { IfOk result (λ parts. parts.items ≡ parts_of value.now k) }
+{
+    let size = part_size(value.len(), k);
+    let mut parts = Vec::with_capacity(alloc, k as usize)?;
+    for number in 0..k {
+        parts.push(part(alloc, value, size, number)?)?;
+    }
+    Ok(parts)
+}
+
+fn part(alloc: Global, value: &[u8], size: usize, number: u8) -> Result<Pick, NoMemory>
+    requires number_fits { number < MAX_N }
+    requires size_fits { size ≤ MAX_VALUE }
+    ensures { IfOk result (λ pick. pick ≡ part_of value.now size number) }
+{
+    let start = number as usize * size;
+    let mut bytes = Vec::with_capacity(alloc, size)?;
+    for place in 0..size {
+        bytes.push(byte_or_zero(value, start + place))?;
+    }
+    Ok(Pick {
+        cloud: number,
+        bytes: Blob::of(bytes),
+    })
+}
+
+fn byte_or_zero(value: &[u8], place: usize) -> u8
+    ensures { result ≡ slice_index value.now place }
+{
+    value.get(place).copied().unwrap_or(0)
+}

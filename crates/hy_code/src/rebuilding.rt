@@ -1,0 +1,87 @@
+//! The value that picked fragments rebuild.
+
+ghost use Rattle.std.specs.Prelude.{◌≡◌, ◌≤◌, ◌<◌, ◌==◌, ⊤, ℕ, List, [], length, take, All, Some, None, IfSome, IfOk, IfErr, MatchOption, Result, option_map};
+ghost use Rattle.std.specs.List.{list_any};
+ghost use Rattle.hy_gf.specs.Gf.{IsElement};
+ghost use Rattle.hy_code.specs.Fragments.{AreFragments, clouds, part_size as part_size_of, rebuilt_value};
+ghost use Rattle.hy_code.specs.Polynomial.{AreDifferent, AreElements};
+ghost use Rattle.hy_code.specs.Refusal.{refusal, wrong_length as wrong_length_of, repeated_cloud as repeated_cloud_of};
+
+use crate::fault::RebuildFault;
+use crate::parts::part_size;
+use crate::pick::Pick;
+use crate::row::row;
+use hy_base::{Blob, MAX_K, MAX_VALUE, NoMemory};
+use std::alloc::Global;
+
+/// The value of this size, from the first k picks.
+pub fn rebuild(alloc: Global, size: u32, k: u8, picks: &Vec<Pick>) -> Result<Blob, RebuildFault>
+    requires one_part { 1 ≤ k }
+    requires parts_fit { k ≤ MAX_K }
+    requires size_fits { size ≤ MAX_VALUE }
+    ensures refused { IfSome (refusal size k picks.now.items) (λ fault. result ≡ Err fault) }
+    ensures only_refused { IfErr result (λ fault. MatchOption (refusal size k picks.now.items) (fault ≡ RebuildFault.NoMemory) (λ due. fault ≡ due)) }
+    ensures rebuilt { IfOk result (λ value. value ≡ rebuilt_value size k (take k picks.now.items)) }
+
+    // Any k fragments of a value rebuild it.
+    ensures any_parts { IfOk result (λ rebuilt. (value : List ℕ) → AreElements IsElement value → length value ≡ size → AreFragments value k (take k picks.now.items) → rebuilt ≡ value) }
+{
+    let used = k as usize;
+    if picks.len() < used {
+        return Err(RebuildFault::Few(picks.len()));
+    }
+    let first = &picks[..used];
+    let part_size = part_size(size as usize, k);
+    if let Some(place) = wrong_length(part_size, first) {
+        return Err(RebuildFault::Length(place));
+    }
+    if let Some(cloud) = repeated_cloud(first) {
+        return Err(RebuildFault::Twice(cloud));
+    }
+    let value = parts_joined(alloc, size as usize, k, first)?;
+    Ok(Blob::of(value))
+}
+
+/// The place of the first pick that has not this many bytes.
+fn wrong_length(size: usize, picks: &[Pick]) -> Option<usize>
+    ensures { result ≡ wrong_length_of size picks.now }
+{
+    picks
+        .iter()
+        .position(|pick| pick.bytes.bytes().len() != size)
+}
+
+/// The first cloud, from the left, that stands earlier too.
+fn repeated_cloud(picks: &[Pick]) -> Option<u8>
+    ensures { result ≡ repeated_cloud_of [] picks.now }
+{
+    for (i, pick) in picks.iter().enumerate() {
+        if has_cloud(&picks[..i], pick.cloud) {
+            return Some(pick.cloud);
+        }
+    }
+    None
+}
+
+fn has_cloud(picks: &[Pick], cloud: u8) -> bool
+    ensures { result ≡ list_any (λ pick. pick.cloud == cloud) picks.now }
+{
+    picks.iter().any(|pick| pick.cloud == cloud)
+}
+
+/// The first `size` bytes of the k parts that lie on the polynomials through the picks.
+fn parts_joined(alloc: Global, size: usize, k: u8, picks: &[Pick]) -> Result<Vec<u8>, NoMemory>
+    requires one_part { 1 ≤ k }
+    requires sizes { All (λ pick. length pick.bytes ≡ part_size_of size k) picks.now }
+    requires different { AreDifferent (clouds picks.now) }
+    ensures { IfOk result (λ value. value.items ≡ rebuilt_value size k picks.now) }
+{
+    let part_size = part_size(size, k);
+    let mut value = Vec::new(alloc);
+    for part in 0..k {
+        let bytes = row(alloc, part_size, picks, part)?;
+        value.extend_from_slice(&bytes)?;
+    }
+    value.truncate(size);
+    Ok(value)
+}

@@ -1,0 +1,4 @@
+pub mod Field
+pub mod Gf
+pub mod GfLaws
+pub mod Row

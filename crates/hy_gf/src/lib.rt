@@ -1,0 +1,13 @@
+//! The field of 256 elements that the erasure code computes in, and the sums of its rows.
+#![tactic(auto)]
+
+mod field;
+mod gf;
+mod row;
+
+pub use field::Field;
+pub use gf::Gf;
+pub use row::mul_add;
+
+#[cfg(test)]
+mod tests;
