@@ -1,7 +1,7 @@
 mod Spaced
 mod Lines
 mod Clouds
-pub mod Legal
-pub mod Places
-pub mod Listed
-pub mod Verdicts
+mod Legal
+mod Places
+mod Listed
+mod Verdicts

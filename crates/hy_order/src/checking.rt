@@ -373,3 +373,6 @@ fn may_be_listed(op: &Operation) -> bool
         End::Pending { .. } => matches!(op.action, Action::Put { .. } | Action::Delete { .. }),
     }
 }
+
+#[cfg(test)]
+mod tests;
