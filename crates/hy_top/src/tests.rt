@@ -52,91 +52,78 @@ fn worked_schedules_give_their_reports(rt: HostRuntime) -> Result<(), Fail> {
     Ok(())
 }
 
+/// The status of an input whose first bad line is this one.
+fn bad_input(line: u32, cause: Cause) -> Status {
+    Status::BadInput(TextFault { line, cause })
+}
+
 #[test]
-fn each_refusal_has_its_status_and_its_line(rt: HostRuntime) -> Result<(), Fail> {
+fn each_bad_line_is_named(rt: HostRuntime) -> Result<(), Fail> {
     let alloc = rt.alloc();
     let text = format!(in alloc; "{HEADER}do 1 put a 6\n")?;
-    let bad = TextFault {
-        line: 2,
-        cause: Cause::BadHex,
-    };
-    let none = TextFault {
-        line: 1,
-        cause: Cause::NoHeader,
-    };
-    let long = MAX_INPUT as usize + 1;
-    for (words, input, failing_reads, failing_writes, status, line) in [
+    for (input, status, line) in [
         (
-            ["replay"].as_slice(),
-            text.as_bytes(),
-            0,
-            0,
-            Status::BadInput(bad),
+            text.as_str(),
+            bad_input(2, Cause::BadHex),
             "bad input 2 BadHex\n",
         ),
-        (
-            &["replay"],
-            b"",
-            0,
-            0,
-            Status::BadInput(none),
-            "bad input 1 NoHeader\n",
-        ),
-        (&["replay"], b"", 1, 0, Status::ReadFault, "read fault\n"),
-        (&["replay"], b"", 0, 1, Status::WriteFault, ""),
-        (&["fly"], b"", 1, 0, Status::BadWords, "bad words\n"),
-        (&[], b"", 0, 0, Status::BadWords, "bad words\n"),
-        (
-            &["replay", "replay"],
-            b"",
-            0,
-            0,
-            Status::BadWords,
-            "bad words\n",
-        ),
-        (&["--help"], b"", 0, 1, Status::WriteFault, ""),
+        ("", bad_input(1, Cause::NoHeader), "bad input 1 NoHeader\n"),
     ] {
-        let (got, written) = answer(
-            alloc,
-            words,
-            Blob::copy_of(alloc, input)?,
-            vec![in alloc; failing_reads]?,
-            vec![in alloc; failing_writes]?,
-        )?;
-        assert_eq!(rt; got, status, "{words:?}");
+        let input = Blob::copy_of(alloc, input.as_bytes())?;
+        let (got, written) = answer(alloc, &["replay"], input, Vec::new(alloc), Vec::new(alloc))?;
+        assert_eq!(rt; got, status);
         assert_eq!(rt; written.as_str(), line);
     }
-    let (got, written) = answer(
-        alloc,
-        &["replay"],
-        Blob::of(vec![in alloc; b'a'; long]?),
-        Vec::new(alloc),
-        Vec::new(alloc),
-    )?;
-    assert_eq!(rt; got, Status::TooLong);
-    assert_eq!(rt; written.as_str(), "too long\n");
     Ok(())
 }
 
 #[test]
-fn a_text_of_the_greatest_length_is_read(rt: HostRuntime) -> Result<(), Fail> {
+fn other_refusals_have_their_status_and_line(rt: HostRuntime) -> Result<(), Fail> {
+    let alloc = rt.alloc();
+    for (words, failing_read, failing_write, status, line) in [
+        (
+            ["replay"].as_slice(),
+            1,
+            0,
+            Status::ReadFault,
+            "read fault\n",
+        ),
+        (&["replay"], 0, 1, Status::WriteFault, ""),
+        (&["fly"], 1, 0, Status::BadWords, "bad words\n"),
+        (&[], 0, 0, Status::BadWords, "bad words\n"),
+        (&["replay", "replay"], 0, 0, Status::BadWords, "bad words\n"),
+        (&["--help"], 0, 1, Status::WriteFault, ""),
+    ] {
+        let (got, written) = answer(
+            alloc,
+            words,
+            Blob::copy_of(alloc, b"")?,
+            vec![in alloc; failing_read]?,
+            vec![in alloc; failing_write]?,
+        )?;
+        assert_eq!(rt; got, status, "{words:?}");
+        assert_eq!(rt; written.as_str(), line);
+    }
+    Ok(())
+}
+
+#[test]
+fn the_length_of_an_input_is_limited(rt: HostRuntime) -> Result<(), Fail> {
     let alloc = rt.alloc();
     let most = MAX_INPUT as usize;
-    let (status, written) = answer(
-        alloc,
-        &["replay"],
-        Blob::of(vec![in alloc; b'\n'; most]?),
-        Vec::new(alloc),
-        Vec::new(alloc),
-    )?;
-    assert_eq!(rt;
-        status,
-        Status::BadInput(TextFault {
-            line: 1,
-            cause: Cause::NoHeader
-        })
-    );
-    assert_eq!(rt; written.as_str(), "bad input 1 NoHeader\n");
+    for (size, status, line) in [
+        (
+            most,
+            bad_input(1, Cause::NoHeader),
+            "bad input 1 NoHeader\n",
+        ),
+        (most + 1, Status::TooLong, "too long\n"),
+    ] {
+        let input = Blob::of(vec![in alloc; b'\n'; size]?);
+        let (got, written) = answer(alloc, &["replay"], input, Vec::new(alloc), Vec::new(alloc))?;
+        assert_eq!(rt; got, status);
+        assert_eq!(rt; written.as_str(), line);
+    }
     Ok(())
 }
 

@@ -2,10 +2,9 @@
 #![tactic(auto)]
 
 use hy_base::{ReadSource, WriteSink};
-use std::env;
-use std::io;
 use std::process::ExitCode;
 use std::rt::Env;
+use std::{env, io};
 
 fn main(rt: HostRuntime) -> ExitCode {
     let words = words_of(&rt).unwrap_or(Vec::new(rt.alloc()));
