@@ -5,7 +5,8 @@ use Rattle.std.proofs.Common.{refl}
 use Rattle.std.specs.Coded.{le_prop}
 use Rattle.hy_gf.specs.Gf.{gf, IsElement}
 use Rattle.hy_gf.specs.GfLaws.{gf_is_field}
-use Rattle.hy_code.specs.Weights.{weight, weighted_sum}
+use Rattle.hy_code.specs.Weights.{weight}
+use Rattle.hy_code.proofs.Interpolation.{weighted_sum}
 use Rattle.hy_code.specs.Polynomial.{AreElements, AreDifferent, IsOnlyPolynomial, value_at, polynomial_through}
 use Rattle.hy_code.proofs.Elements as field
 

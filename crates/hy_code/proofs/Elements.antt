@@ -3,7 +3,8 @@ use Rattle.std.proofs.Common.{◌≡◌, ◌≢◌, suc, List, [], ◌∷◌, le
 use mathlib.Core.HLevel.{Σ_prop_path}
 use Rattle.std.specs.List.{fold}
 use Rattle.hy_gf.specs.Field.{Operations, IsField}
-use Rattle.hy_code.specs.Weights.{weight, weight_step, weighted_sum}
+use Rattle.hy_code.specs.Weights.{weight, weight_step}
+use Rattle.hy_code.proofs.Interpolation.{weighted_sum}
 use Rattle.hy_code.specs.Polynomial.{AreElements, Differs, AreDifferent, IsOnlyPolynomial, value_at, Interpolates, with_value, slopes, polynomial_through}
 use Rattle.hy_code.proofs.Interpolation as whole
 

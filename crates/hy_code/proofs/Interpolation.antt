@@ -3,8 +3,14 @@ use Rattle.std.proofs.Common.{◌≡◌, ◌≢◌, suc, List, [], ◌∷◌, le
 use Rattle.std.proofs.lemmas.Bool.{cond-true, cond-false}
 use Rattle.std.specs.List.{fold}
 use Rattle.hy_gf.specs.Field.{Operations, IsField}
-use Rattle.hy_code.specs.Weights.{weight, weight_step, weighted_sum}
+use Rattle.hy_code.specs.Weights.{weight, weight_step}
 use Rattle.hy_code.specs.Polynomial.{Differs, AreDifferent, value_at, Interpolates, with_value, slopes, polynomial_through}
+
+-- the sum of the values, each times its weight
+abbrev pub weighted_sum : {T : Type 0} → Operations T → List T → List T → T
+weighted_sum F [] values = F.zero
+weighted_sum F (w ∷ weights) [] = F.zero
+weighted_sum F (w ∷ weights) (y ∷ values) = F.sum (F.product w y) (weighted_sum F weights values)
 
 module _ (T : Type 0) (F : Operations T) (field : IsField (λ (x : T). Unit {0}) F) where
   infixl 60 ◌⊕◌

@@ -12,7 +12,8 @@ use Rattle.hy_code.proofs.Bytes.{value_at-weights}
 use Rattle.hy_code.proofs.Refusals.{AreSized}
 use Rattle.hy_code.specs.Fragments.{clouds, column, row_at}
 use Rattle.hy_code.specs.Polynomial.{AreElements, AreDifferent, value_at, polynomial_through}
-use Rattle.hy_code.specs.Weights.{weight, weighted_sum}
+use Rattle.hy_code.specs.Weights.{weight}
+use Rattle.hy_code.proofs.Interpolation.{weighted_sum}
 use Rattle.hy_code.specs.declared.pick.Pick.{Pick}
 
 -- ---- clouds and bytes in range

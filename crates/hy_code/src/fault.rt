@@ -9,11 +9,11 @@ use std::alloc::{AllocError, AllocFailed};
 /// The first k picks, which alone are judged, do not rebuild a value.
 #[derive(Clone, Copy, Debug, PartialEq, Eq)]
 pub enum RebuildFault {
-    /// There are only so many picks.
+    /// There are only so many picks, which is fewer than the parts.
     Few(usize),
     /// The pick at this place has a wrong number of bytes.
     Length(usize),
-    /// This cloud stands at two places, the second of them the first such.
+    /// The first cloud, from the left, that stands earlier too.
     Twice(u8),
     /// Memory ran out.
     NoMemory,

@@ -1,6 +1,6 @@
 //! The fragments of a value.
 
-ghost use Rattle.std.specs.Prelude.{◌≡◌, ◌<◌, ◌≤◌, List, ℕ, [], IfOk, length, map, slice_index_or};
+ghost use Rattle.std.specs.Prelude.{◌≡◌, ◌<◌, ◌≤◌, ℕ, List, [], IfOk, length, map, slice_index_or};
 ghost use Rattle.std.specs.List.{range_with_len};
 ghost use Rattle.hy_code.specs.Fragments.{fragment_of};
 

@@ -1,6 +1,6 @@
 //! The value that picked fragments rebuild.
 
-ghost use Rattle.std.specs.Prelude.{◌≡◌, ◌≤◌, ◌<◌, ◌==◌, ⊤, ℕ, List, [], length, take, All, Some, None, IfSome, IfOk, IfErr, MatchOption, Result, option_map};
+ghost use Rattle.std.specs.Prelude.{◌≡◌, ◌≤◌, ◌==◌, ℕ, List, [], length, take, All, IfSome, IfOk, IfErr, MatchOption};
 ghost use Rattle.std.specs.List.{list_any};
 ghost use Rattle.hy_gf.specs.Gf.{IsElement};
 ghost use Rattle.hy_code.specs.Fragments.{AreFragments, clouds, part_size as part_size_of, rebuilt_value};

@@ -1,6 +1,6 @@
 //! The bytes that lie on the polynomials through picked bytes, place by place.
 
-ghost use Rattle.std.specs.Prelude.{◌≡◌, ◌==◌, IfOk, length, map, All};
+ghost use Rattle.std.specs.Prelude.{◌≡◌, ◌==◌, IfOk, length, All};
 ghost use Rattle.hy_gf.specs.Gf.{gf};
 ghost use Rattle.hy_code.specs.Fragments.{clouds, row_at};
 ghost use Rattle.hy_code.specs.Polynomial.{AreDifferent};
@@ -20,11 +20,8 @@ pub fn row(alloc: Global, size: usize, picks: &[Pick], target: u8) -> Result<Vec
     let mut bytes = vec![in alloc; 0u8; size]?;
     for pick in picks {
         let held = pick.bytes.bytes();
-        mul_add(
-            held,
-            weight(picks, pick.cloud, target),
-            bytes.as_mut_slice(),
-        );
+        let weight = weight(picks, pick.cloud, target);
+        mul_add(held, weight, bytes.as_mut_slice());
     }
     Ok(bytes)
 }

@@ -12,11 +12,11 @@ loop-pick-preserved c =
     let small : pick.cloud < 256 = search rules in
     let B : List ℕ → Type 0 = λ bytes. (place : ℕ) → get_or bytes place 0 < 256 in
     let held : B c.bytes-held.result.now = λ place. search rules in (
-      rows_sum-more c.args.size c.args.picks.now c.args.target c.loop-pick.pick-index pick c.loop-pick.bytes.items c.mul_add.new.out c.loop-pick.bytes.len c.weight.result
-          c.loop-pick-test.true c.pick-item.is c.loop-pick.invariant.0 c.loop-pick.bytes.ok.0 c.weight.ensures
+      rows_sum-more c.args.size c.args.picks.now c.args.target c.loop-pick.pick-index pick c.loop-pick.bytes.items c.mul_add.new.out c.loop-pick.bytes.len c.weight-weight.result
+          c.loop-pick-test.true c.pick-item.is c.loop-pick.invariant.0 c.loop-pick.bytes.ok.0 c.weight-weight.ensures
           (c.mul_add.ensures
-          ∙ ap (λ row. row_sum c.weight.result row c.as_mut_slice.result.now) c.bytes-held.ensures
-          ∙ ap (row_sum c.weight.result pick.bytes) c.as_mut_slice.ensures.value),
+          ∙ ap (λ row. row_sum c.weight-weight.result row c.as_mut_slice.result.now) c.bytes-held.ensures
+          ∙ ap (row_sum c.weight-weight.result pick.bytes) c.as_mut_slice.ensures.value),
       in_range-more c.args.picks.now c.loop-pick.pick-index pick c.loop-pick-test.true c.pick-item.is c.loop-pick.invariant.1 small (subst B c.bytes-held.ensures held),
     )
 
