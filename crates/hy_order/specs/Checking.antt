@@ -13,7 +13,7 @@ pub record IsMarked (count : ℕ) (numbers : List ℕ) (marks : List Bool) : Typ
   pub room : length marks ≡ count + 1
   pub each : (number : ℕ) → number < length marks → slice_index_or marks number false ≡ is_listed numbers number
 
--- the least number without a mark of a finished operation of the key
+-- the number of the first finished operation of the key that has no mark
 abbrev pub unmarked_number : List Operation → List ℕ → List Bool → Option ℕ
 unmarked_number history key marks =
     option_map (λ (op : Operation). op.number) (find (λ op. (is_of_key key op && is_finished op.end) && not (slice_index_or marks op.number false)) history)

@@ -15,7 +15,7 @@ use Rattle.hy_order.specs.Linearization.{is_of_key, is_finished, may_be_listed, 
 abbrev pub is_listed : List ℕ → ℕ → Bool
 is_listed numbers number = list_any (λ other. other == number) numbers
 
--- the least number of a finished operation of the key that the order does not list
+-- the number of the first finished operation of the key that the order does not list: the least such, in a history
 abbrev pub missing_number : List Operation → List ℕ → List ℕ → Option ℕ
 missing_number history key order =
     option_map (λ (op : Operation). op.number) (find (λ op. (is_of_key key op && is_finished op.end) && not (is_listed order op.number)) history)
@@ -29,7 +29,7 @@ is_member key (Some op) = is_of_key key op && may_be_listed op.action op.end
 abbrev pub stranger_number : List Operation → List ℕ → List ℕ → Option ℕ
 stranger_number history key order = find (λ number. not (is_member key (operation_at history number))) order
 
--- the first number that stands among the earlier ones, or that stands twice
+-- the first number that is among the earlier ones, to which each number is added when it is passed
 abbrev pub repeated_behind : List ℕ → List ℕ → Option ℕ
 repeated_behind earlier [] = None
 repeated_behind earlier (number ∷ later) =

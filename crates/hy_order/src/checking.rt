@@ -63,13 +63,15 @@ pub enum Verdict {
     Legal,
     /// This finished put, get or delete of the key is not listed, and none with a lower number.
     Missing(u32),
-    /// This listed number is of no operation, or of one that an order of the key may not list.
+    /// This listed number is the first that is of no operation, or of one that an order of the key may
+    /// not list.
     Stranger(u32),
-    /// This number is listed twice.
+    /// This number is listed a second time, and none is before.
     Twice(u32),
-    /// The first returned before the second was invoked, and is listed behind it.
+    /// The second is the first listed operation behind which one stands that returned before it was
+    /// invoked; the first is the first such one.
     Early(u32, u32),
-    /// This get answers other than the last write before it left.
+    /// This get is the first that answers other than the last write before it left.
     Wrong(u32),
 }
 
@@ -257,7 +259,8 @@ fn first_returned_before(listed: &[&Operation], step: u64) -> Option<u32>
     None
 }
 
-/// The place of the first operation behind which one stands that returned before it was invoked.
+/// The place of the first operation behind which one stands that returned before it was invoked, or
+/// the length where there is none.
 ///
 /// It goes from the back, and keeps the earliest return of the operations that it has passed.
 fn early_start(listed: &[&Operation]) -> usize

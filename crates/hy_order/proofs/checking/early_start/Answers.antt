@@ -25,7 +25,7 @@ loop-place-preserved c =
     record {
       within = grind arith;
       earliest =
-        c.min-earliest.ensures ∙ ap (min c.loop-place.earliest) c.return_step.ensures
-        ∙ earliest_return-more ops place c.loop-place.place c.loop-place.earliest op is_next within is c.loop-place.invariant.earliest;
+          c.min-earliest.ensures ∙ ap (min c.loop-place.earliest) c.return_step.ensures
+          ∙ earliest_return-more ops place c.loop-place.place c.loop-place.earliest op is_next within is c.loop-place.invariant.earliest;
       part = grind (arith, here, later);
     }
