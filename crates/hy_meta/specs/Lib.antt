@@ -1,3 +1,4 @@
 pub mod Service
 pub mod Watches
 pub mod Sessions
+pub mod Rows

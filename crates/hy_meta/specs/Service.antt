@@ -47,7 +47,7 @@ is_old (Olds client op k ∷ before) key stamp = is_old before key stamp
 -- the timestamp in its place in a rising list
 unfoldable pub insert_stamp : Timestamp → List Timestamp → List Timestamp
 insert_stamp stamp [] = stamp ∷ []
-insert_stamp stamp (first ∷ others) = if stamp_lt stamp first then stamp ∷ first ∷ others else if stamp_eq stamp first then first ∷ others else first ∷ insert_stamp stamp others
+insert_stamp stamp (first ∷ others) = if stamp_lt first stamp then first ∷ insert_stamp stamp others else if stamp_eq first stamp then first ∷ others else stamp ∷ first ∷ others
 
 -- the timestamps of all updates of the key, in increasing order
 unfoldable pub known_stamps : List MetaAsk → List ℕ → List Timestamp

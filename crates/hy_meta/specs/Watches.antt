@@ -7,14 +7,8 @@ use Rattle.hy_record.specs.declared.message.MetaSay.TheVariants as says
 use Rattle.hy_record.specs.Stamp.{Timestamp, stamp_lt}
 use Rattle.hy_record.specs.Key.{key_eq}
 use Rattle.hy_record.specs.Record.{RecordValue}
+use Rattle.hy_meta.specs.declared.watcher.Watcher.{Watcher}
 use Rattle.hy_meta.specs.Service.{record_after, record_stamp, is_old, old_list}
-
--- a watch: who asked, and above which timestamp of the key's record it fires
-pub record Watcher : Type 0 where
-  pub client : ℕ
-  pub op : ℕ
-  pub key : List ℕ
-  pub stamp : Timestamp
 
 -- the watches that were asked for, oldest first
 unfoldable pub watches_of : List MetaAsk → List Watcher

@@ -2,5 +2,9 @@
 #![tactic(auto)]
 
 mod meta;
+mod olds;
+mod rows;
+mod watcher;
 
 pub use meta::{Meta, SessionsFull};
+pub use watcher::Watcher;
