@@ -24,12 +24,12 @@ abbrev pub is_sorted : List Timestamp → Bool
 is_sorted [] = true
 is_sorted (x ∷ xs) = is_below_all x xs && is_sorted xs
 
-both : (a b : Bool) → (a && b) ≡ true → (a ≡ true) × (b ≡ true)
+pub both : (a b : Bool) → (a && b) ≡ true → (a ≡ true) × (b ≡ true)
 both true true e = (refl, refl)
 both true false e = absurd cc
 both false b e = absurd cc
 
-pair : (a b : Bool) → a ≡ true → b ≡ true → (a && b) ≡ true
+pub pair : (a b : Bool) → a ≡ true → b ≡ true → (a && b) ≡ true
 pair a b p q = rw (p, q) refl
 
 below_all-trans : (x y : Timestamp) (xs : List Timestamp) → stamp_lt x y ≡ true → is_below_all y xs ≡ true → is_below_all x xs ≡ true
@@ -194,7 +194,7 @@ nothing : (s : Timestamp) → false ≡ has_stamp [] s
 unfolding has_stamp
 nothing s = refl
 
-neither : (a b : Bool) → (a || b) ≡ false → (a ≡ false) × (b ≡ false)
+pub neither : (a b : Bool) → (a || b) ≡ false → (a ≡ false) × (b ≡ false)
 neither true b e = absurd cc
 neither false b e = (refl, e)
 

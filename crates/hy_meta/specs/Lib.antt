@@ -2,3 +2,4 @@ pub mod Service
 pub mod Watches
 pub mod Sessions
 pub mod Rows
+pub mod Held

@@ -4,7 +4,9 @@
 mod meta;
 mod olds;
 mod rows;
+mod service;
 mod watcher;
 
 pub use meta::{Meta, SessionsFull};
+pub use service::service_steps;
 pub use watcher::Watcher;

@@ -1,0 +1,18 @@
+-- What the parts of the first service stand for.
+use Rattle.std.specs.Prelude.{◌≡◌, ℕ, Bool, ◌&&◌, List, ◌∷◌, Result, IfOk, MatchResult}
+use Rattle.hy_record.specs.declared.message.MetaAsk.{MetaAsk}
+use Rattle.hy_record.specs.Stamp.{Timestamp, stamp_lt}
+use Rattle.hy_record.specs.Key.{key_eq}
+use Rattle.hy_meta.specs.declared.rows.Row.{Row}
+use Rattle.hy_meta.specs.declared.watcher.Watcher.{Watcher}
+use Rattle.hy_meta.specs.Service.{has_stamp}
+use Rattle.hy_meta.specs.Watches.{StandsFor}
+use Rattle.hy_meta.specs.Rows.{record_in, olds_in}
+
+-- the rows and the waiting watches are those behind these requests
+abbrev pub Serves : List Row → List Watcher → List MetaAsk → Type 0
+Serves rows watches served = StandsFor (λ key. record_in rows key) (λ key stamp. has_stamp (olds_in rows key) stamp) watches served
+
+-- the watch is of this key, and below the timestamp
+unfoldable pub is_due : List ℕ → Timestamp → Watcher → Bool
+is_due key stamp w = key_eq w.key key && stamp_lt w.stamp stamp
