@@ -1,5 +1,5 @@
 -- What a list of rows keeps of a key: that of its first row of the key.
-use Rattle.std.specs.Prelude.{◌≡◌, ℕ, List, [], ◌∷◌, Option, Some, None, if◌then◌else◌}
+use Rattle.std.specs.Prelude.{◌≡◌, ℕ, List, [], ◌∷◌, Option, Some, None, MatchOption, if◌then◌else◌}
 use Rattle.std.specs.List.{find}
 use Rattle.hy_record.specs.Stamp.{Timestamp}
 use Rattle.hy_record.specs.Key.{key_eq}
@@ -34,6 +34,10 @@ PutsRow old new key row = (k : List ℕ) → row_of new k ≡ (if key_eq key k t
 -- each key has the row that it had
 abbrev pub SameRows : List Row → List Row → Type 0
 SameRows old new = (k : List ℕ) → row_of new k ≡ row_of old k
+
+-- the key's row, if there is one, has the timestamp among the superseded ones now
+abbrev pub AddsOld : List Row → List Row → List ℕ → Timestamp → Type 0
+AddsOld old new key stamp = MatchOption (row_of old key) (SameRows old new) (λ row. PutsRow old new key (record row { olds = insert_stamp stamp row.olds }))
 
 -- the row after a newer record
 abbrev pub superseded : Option Row → List ℕ → RecordValue → Row

@@ -8,5 +8,5 @@ mod service;
 mod watcher;
 
 pub use meta::{Meta, SessionsFull};
-pub use service::service_steps;
+pub use service::Service;
 pub use watcher::Watcher;

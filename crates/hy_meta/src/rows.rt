@@ -5,7 +5,7 @@ ghost use Rattle.std.specs.Option.{option_copied};
 ghost use Rattle.std.specs.List.{position};
 ghost use Rattle.hy_record.specs.Key.{key_eq};
 ghost use Rattle.hy_meta.specs.Service.{has_stamp, insert_stamp};
-ghost use Rattle.hy_meta.specs.Rows.{row_of, PutsRow, SameRows, superseded};
+ghost use Rattle.hy_meta.specs.Rows.{row_of, PutsRow, SameRows, AddsOld, superseded};
 
 use crate::olds::OldStamps;
 use hy_base::NoMemory;
@@ -78,7 +78,7 @@ pub(crate) fn put(
 
 /// Makes the timestamp of a refused update of the key old.
 pub(crate) fn add_old(rows: &mut Vec<Row>, key: &Key, stamp: Stamp) -> Result<(), NoMemory>
-    ensures ok { OnOk result (MatchOption (row_of rows.old.items key.now) (SameRows rows.old.items rows.new.items) (λ row. PutsRow rows.old.items rows.new.items key.now (record row { olds = insert_stamp stamp row.olds }))) }
+    ensures ok { OnOk result (AddsOld rows.old.items rows.new.items key.now stamp) }
     ensures err { OnErr result (SameRows rows.old.items rows.new.items) }
 {
     match place_of(rows, key) {
