@@ -1,3 +1,5 @@
 pub mod Rising
 pub mod Places
 pub mod Steps
+pub mod Holds
+pub mod Answering

@@ -1,15 +1,16 @@
 //! What the service keeps of each key: the record, and the superseded timestamps.
 
-ghost use Rattle.std.specs.Prelude.{◌≡◌, ◌<◌, [], not, filter, OnOk, OnErr, IfSome, MatchOption, length};
+ghost use Rattle.std.specs.Prelude.{◌≡◌, ◌<◌, [], not, filter, OnOk, OnErr, IfSome, IfOk, IsTrue, MatchOption, length, take};
 ghost use Rattle.std.specs.Option.{option_copied};
 ghost use Rattle.std.specs.List.{position};
 ghost use Rattle.hy_record.specs.Key.{key_eq};
-ghost use Rattle.hy_meta.specs.Service.{has_stamp, insert_stamp};
-ghost use Rattle.hy_meta.specs.Rows.{row_of, PutsRow, SameRows, AddsOld, superseded};
+ghost use Rattle.hy_record.specs.Stamps.{is_rising};
+ghost use Rattle.hy_meta.specs.Service.{has_stamp, insert_stamp, stamp_of_record};
+ghost use Rattle.hy_meta.specs.Rows.{row_of, record_in, olds_in, PutsRow, SameRows, AddsOld, superseded};
 
 use crate::olds::OldStamps;
 use hy_base::NoMemory;
-use hy_record::{Key, Record, Stamp};
+use hy_record::{Key, MAX_STAMPS, Record, Stamp, Stamps};
 use std::alloc::Global;
 
 /// What is kept of a key.
@@ -47,6 +48,47 @@ pub(crate) fn find<'a>(rows: &'a [Row], key: &Key) -> Option<&'a Row>
     ensures { option_copied result ≡ row_of rows.now key.now }
 {
     rows.iter().find(|row| row.key.is_same(key))
+}
+
+/// A copy of the key's record.
+#[tactic(auto, unfolding(crate::specs::Rows::record_in))]
+pub(crate) fn copied(
+    alloc: Global,
+    rows: &[Row],
+    key: &Key,
+) -> Result<Option<Record>, NoMemory>
+    ensures { IfOk result (λ rec. rec ≡ record_in rows.now key.now) }
+{
+    match find(rows, key) {
+        Some(row) => {
+            let rec = row.rec.copy(alloc)?;
+            Ok(Some(rec))
+        }
+        None => Ok(None),
+    }
+}
+
+/// The timestamp of the key's record; (0,0) where there is none.
+#[tactic(auto, unfolding(crate::specs::Rows::record_in))]
+pub(crate) fn held_stamp(rows: &[Row], key: &Key) -> Stamp
+    ensures { result ≡ stamp_of_record (record_in rows.now key.now) }
+{
+    match find(rows, key) {
+        Some(row) => row.rec.stamp(),
+        None => Stamp::zero(),
+    }
+}
+
+/// The least superseded timestamps of the key.
+#[tactic(auto, unfolding(crate::specs::Rows::olds_in))]
+pub(crate) fn least_olds(alloc: Global, rows: &[Row], key: &Key) -> Result<Stamps, NoMemory>
+    ensures front { IfOk result (λ stamps. stamps ≡ take MAX_STAMPS (olds_in rows.now key.now)) }
+    ensures rising { OnOk result (IsTrue (is_rising (olds_in rows.now key.now))) }
+{
+    match find(rows, key) {
+        Some(row) => row.olds.least(alloc),
+        None => Ok(Stamps::of(Vec::new(alloc))),
+    }
 }
 
 /// Makes the newer record that of the key.

@@ -48,10 +48,9 @@ impl Service {
         op: u32,
         key: &Key,
     ) -> Result<Vec<MetaSay>, NoMemory>
-        ensures { IfOk result (λ sent. sent.items ≡ says.Has client op key.now (record_in self.now.rows.items key.now) ∷ []) }
+        ensures { Says (Serves self.now.rows.items self.now.watches.items) (asks.Read client op key.now) result }
     {
-        let found = rows::find(&self.rows, key);
-        let rec = copied(alloc, found)?;
+        let rec = rows::copied(alloc, &self.rows, key)?;
         let key = *key;
         one(
             alloc,
@@ -76,7 +75,7 @@ impl Service {
         ensures goes_on { GoesOn (Serves self.old.rows.items self.old.watches.items) (Serves self.new.rows.items self.new.watches.items) (asks.Update client op key.now rec.now) result }
         ensures given { self.new.given ≡ self.old.given }
     {
-        let held = held_stamp(&self.rows, key);
+        let held = rows::held_stamp(&self.rows, key);
         let stamp = rec.stamp();
         if held.is_below(&stamp) {
             self.apply(alloc, client, op, key, rec)
@@ -97,7 +96,7 @@ impl Service {
         ensures goes_on { GoesOn (Serves self.old.rows.items self.old.watches.items) (Serves self.new.rows.items self.new.watches.items) (asks.Watch client op key.now stamp) result }
         ensures given { self.new.given ≡ self.old.given }
     {
-        let held = held_stamp(&self.rows, key);
+        let held = rows::held_stamp(&self.rows, key);
         let watcher = Watcher {
             client,
             op,
@@ -120,10 +119,7 @@ impl Service {
     ) -> Result<Vec<MetaSay>, NoMemory>
         ensures { Says (Serves self.now.rows.items self.now.watches.items) (asks.Olds client op key.now) result }
     {
-        let stamps = match rows::find(&self.rows, key) {
-            Some(row) => row.olds.least(alloc)?,
-            None => Stamps::of(Vec::new(alloc)),
-        };
+        let stamps = rows::least_olds(alloc, &self.rows, key)?;
         let key = *key;
         one(
             alloc,
@@ -211,35 +207,11 @@ impl Service {
     }
 }
 
-/// A copy of the row's record.
-fn copied(alloc: Global, found: Option<&Row>) -> Result<Option<Record>, NoMemory>
-    ensures { IfOk result (λ rec. rec ≡ record_of_row (option_copied found.entry)) }
-{
-    match found {
-        Some(row) => {
-            let rec = row.rec.copy(alloc)?;
-            Ok(Some(rec))
-        }
-        None => Ok(None),
-    }
-}
-
 /// Ends the watches that are due.
 fn retain_others(watches: &mut Vec<Watcher>, key: &Key, stamp: &Stamp)
     ensures { watches.new.items ≡ filter (λ w. not (is_due key.now stamp.now w)) watches.old.items }
 {
     watches.retain(|watcher| !watcher.is_due(key, stamp));
-}
-
-/// The timestamp of the key's record; (0,0) where there is none.
-#[tactic(auto, unfolding(crate::specs::Rows::record_in))]
-fn held_stamp(rows: &[Row], key: &Key) -> Stamp
-    ensures { result ≡ stamp_of_record (record_in rows.now key.now) }
-{
-    match rows::find(rows, key) {
-        Some(row) => row.rec.stamp(),
-        None => Stamp::zero(),
-    }
 }
 
 /// Applied, and then what tells of each watch that is due, in order.
