@@ -147,7 +147,7 @@ refused-absent old new k stamp held absent rows =
       | inr other ↦ rw other at rows
     ]
 
-has-none : (t : Timestamp) → has_stamp [] t ≡ false
+pub has-none : (t : Timestamp) → has_stamp [] t ≡ false
 unfolding has_stamp
 has-none t = refl
 
@@ -229,3 +229,16 @@ serves-empty rows W no_rows no_watches = rw (no_rows, no_watches) serves-new
 pub serves-same : (old new : List Row) (W W' : List Watcher) (before : List MetaAsk) → SameRows old new → W' ≡ W → Serves old W before → Serves new W' before
 serves-same old new W W' before same watches s =
     stands-same (λ key. record_in old key) (λ key t. has_stamp (olds_in old key) t) W before s (λ key. record_in new key) (λ key t. has_stamp (olds_in new key) t) W' (same-record old new same) (same-olds old new same) watches
+
+pub on_any : {A E P : Type 0} (r : Result A E) → P → OnOk r P
+on_any (Ok x) p = p
+on_any (Err e) p = tt
+
+-- the record and the superseded timestamps of a key whose row is known
+pub record_from : (rows : List Row) (key : List ℕ) (o : Option Row) → o ≡ row_of rows key → record_of_row o ≡ record_in rows key
+unfolding record_in
+record_from rows key o is = ap record_of_row is
+
+pub olds_from : (rows : List Row) (key : List ℕ) (o : Option Row) → o ≡ row_of rows key → olds_of_row o ≡ olds_in rows key
+unfolding olds_in
+olds_from rows key o is = ap olds_of_row is
