@@ -3,3 +3,4 @@ pub mod Places
 pub mod Steps
 pub mod Holds
 pub mod Answering
+pub mod Lasting

@@ -3,3 +3,4 @@ pub mod Watches
 pub mod Sessions
 pub mod Rows
 pub mod Held
+pub mod Run
