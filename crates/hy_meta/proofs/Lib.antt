@@ -4,3 +4,4 @@ pub mod Steps
 pub mod Holds
 pub mod Answering
 pub mod Lasting
+pub mod Once

@@ -31,7 +31,7 @@ filter-twice p q (w ∷ ws) =
       | inr fails ↦ rw fails (filter-twice p q ws)
     ]
 
-filter-push : (p : Watcher → Bool) (ws : List Watcher) (w : Watcher) → filter p (ws ++ w ∷ []) ≡ filter p ws ++ cond (p w) (w ∷ []) []
+pub filter-push : (p : Watcher → Bool) (ws : List Watcher) (w : Watcher) → filter p (ws ++ w ∷ []) ≡ filter p ws ++ cond (p w) (w ∷ []) []
 filter-push p [] w = refl
 filter-push p (v ∷ ws) w =
     elim (cases_bool (p v)) [
