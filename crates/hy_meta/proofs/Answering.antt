@@ -1,6 +1,6 @@
 -- What the methods of the service answer, and what it stands for then.
-use Rattle.std.proofs.Common.{◌≡◌, ℕ, Bool, true, false, not, List, [], ◌∷◌, ◌++◌, take, Result, Ok, Err, refl, sym, ap, ◌∙◌}
-use Rattle.std.specs.Prelude.{filter, map, MatchOption, IfOk, OnOk, OnErr}
+use Rattle.std.proofs.Common.{◌≡◌, ℕ, true, false, not, List, [], ◌∷◌, ◌++◌, take, Result, Ok, Err, sym, ap, ◌∙◌}
+use Rattle.std.specs.Prelude.{filter, map, IfOk, OnOk, OnErr}
 use Rattle.std.specs.Bool.{MatchBool}
 use Rattle.std.specs.Global.{Vec}
 use Rattle.hy_base.specs.declared.failure.NoMemory.{NoMemory}
@@ -18,7 +18,7 @@ use Rattle.hy_meta.specs.Watches.{fired, service_answers}
 use Rattle.hy_meta.specs.Rows.{row_of, record_in, olds_in, PutsRow, SameRows, AddsOld, superseded}
 use Rattle.hy_meta.specs.Held.{Serves, Says, GoesOn, is_due}
 use Rattle.hy_meta.proofs.Steps.{says-read, says-due, says-waits, says-olds, says-applied, says-kept, says-forgot, stands-due, stands-waits}
-use Rattle.hy_meta.proofs.Holds.{serves-applied, serves-refused, serves-forget, serves-same}
+use Rattle.hy_meta.proofs.Holds.{serves-applied, serves-refused, serves-same}
 
 abbrev Answer : Type 0
 Answer = Result (Vec MetaSay) NoMemory

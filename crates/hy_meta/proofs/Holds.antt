@@ -1,23 +1,18 @@
 -- What the rows and the waiting watches stand for, before and after a request.
-use Rattle.std.proofs.Common.{◌≡◌, ℕ, Bool, true, false, cond, not, List, [], ◌∷◌, ◌++◌, take, Option, Some, None, Result, Ok, Err, refl, sym, ap, subst, ◌∙◌, inl, inr}
-use Rattle.std.specs.Prelude.{◌&&◌, ◌||◌, ◌⊎◌, filter, map, MatchOption, MatchResult, IfOk, OnOk, OnErr}
+use Rattle.std.proofs.Common.{◌≡◌, ℕ, Bool, true, false, cond, not, List, [], ◌∷◌, Option, Some, None, Result, Ok, Err, refl, sym, ap, subst, ◌∙◌, inl, inr}
+use Rattle.std.specs.Prelude.{◌&&◌, ◌||◌, ◌⊎◌, filter, MatchOption, OnOk}
 use Rattle.std.specs.Bool.{MatchBool}
-use Rattle.std.specs.Global.{Vec}
-use Rattle.hy_base.specs.declared.failure.NoMemory.{NoMemory}
 use Rattle.hy_record.specs.declared.message.MetaAsk.{MetaAsk}
 use Rattle.hy_record.specs.declared.message.MetaAsk.TheVariants as asks
-use Rattle.hy_record.specs.declared.message.MetaSay.{MetaSay}
-use Rattle.hy_record.specs.declared.message.MetaSay.TheVariants as says
 use Rattle.hy_record.specs.Stamp.{Timestamp, stamp_lt, stamp_eq}
 use Rattle.hy_record.specs.Key.{key_eq}
 use Rattle.hy_record.specs.Record.{RecordValue}
-use Rattle.hy_record.proofs.Order.{key_eq-true, key_eq-same, stamp_lt-other}
+use Rattle.hy_record.proofs.Order.{key_eq-true, stamp_lt-other}
 use Rattle.hy_meta.specs.declared.rows.Row.{Row}
 use Rattle.hy_meta.specs.declared.watcher.Watcher.{Watcher}
 use Rattle.hy_meta.specs.Service.{stamp_of_record, outdates, has_stamp, insert_stamp}
-use Rattle.hy_meta.specs.Watches.{fired, service_answers}
 use Rattle.hy_meta.specs.Rows.{row_of, record_of_row, olds_of_row, record_in, olds_in, PutsRow, SameRows, AddsOld, superseded}
-use Rattle.hy_meta.specs.Held.{Serves, Says, GoesOn, is_due}
+use Rattle.hy_meta.specs.Held.{Serves, is_due}
 use Rattle.hy_meta.proofs.Rising.{cases_bool, has_stamp-insert, has_stamp-filter}
 use Rattle.hy_meta.proofs.Steps.{stands-new, stands-same, stands-refused, stands-applied, stands-forget}
 
@@ -108,7 +103,7 @@ serves-applied old new W W' before client op k r s above puts watches =
     let above_row : stamp_lt (stamp_of_record (record_of_row (row_of old k))) r.stamp ≡ true = ap (λ (o : Option RecordValue). stamp_lt (stamp_of_record o) r.stamp) (sym (row-record old k)) ∙ above in
     let olds_row : (t : Timestamp) → has_stamp row.olds t ≡ (outdates (record_in old k) r.stamp t || has_stamp (olds_in old k) t) =
     λ t. superseded-olds (row_of old k) k r t above_row ∙ ap (λ (o : Option RecordValue). outdates o r.stamp t || has_stamp (olds_of_row (row_of old k)) t) (sym (row-record old k))
-      ∙ ap (λ (xs : List Timestamp). outdates (record_in old k) r.stamp t || has_stamp xs t) (sym (row-olds old k)) in
+    ∙ ap (λ (xs : List Timestamp). outdates (record_in old k) r.stamp t || has_stamp xs t) (sym (row-olds old k)) in
     stands-applied (λ key. record_in old key) (λ key t. has_stamp (olds_in old key) t) W before s client op k r (λ key. record_in new key) (λ key t. has_stamp (olds_in new key) t) W' above
     (λ key. puts-record old new k row puts key ∙ ap (λ (x : RecordValue). cond (key_eq k key) (Some x) (record_in old key)) (superseded-rec (row_of old k) k r))
     (λ key t. puts-olds old new k row puts key t ∙ at_key k key (λ x. has_stamp (olds_in old x) t) (has_stamp row.olds t) (outdates (record_in old k) r.stamp t) (olds_row t))
@@ -119,8 +114,8 @@ kept-record : (old new : List Row) (k : List ℕ) (row : Row) (olds : List Times
 kept-record old new k row olds there puts key =
     puts-record old new k (record row { olds = olds }) puts key ∙ elim (cases_bool (key_eq k key)) [
       | inl here ↦
-        let held : record_in old key ≡ Some row.rec = ap (λ (x : List ℕ). record_in old x) (sym (key_eq-true k key here)) ∙ row-record old k ∙ ap record_of_row there in
-        rw (here, held) refl
+          let held : record_in old key ≡ Some row.rec = ap (λ (x : List ℕ). record_in old x) (sym (key_eq-true k key here)) ∙ row-record old k ∙ ap record_of_row there in
+          rw (here, held) refl
       | inr other ↦ rw other refl
     ]
 
@@ -159,8 +154,8 @@ forgets-none : (k key : List ℕ) (f : List ℕ → Bool) (listed : Bool) → f 
 forgets-none k key f listed empty =
     elim (cases_bool (key_eq k key)) [
       | inl here ↦
-        let none : f key ≡ false = ap f (sym (key_eq-true k key here)) ∙ empty in
-        rw (here, none) (nothing-left (not listed))
+          let none : f key ≡ false = ap f (sym (key_eq-true k key here)) ∙ empty in
+          rw (here, none) (nothing-left (not listed))
       | inr other ↦ rw other refl
     ]
 
@@ -182,24 +177,24 @@ serves-refused old new W W' before client op k r s below rows watches =
     λ same none. done (same-record old new same) (λ key t. same-olds old new same key t ∙ nothing-out (key_eq k key) (has_stamp (olds_in old key) t) ∙ ap (λ (b : Bool). (key_eq k key && b) || has_stamp (olds_in old key) t) (sym (none t))) in
     elim (cases_row (row_of old k)) [
       | inl absent ↦
-        let none : record_in old k ≡ None = row-record old k ∙ ap record_of_row absent in
-        unchanged (refused-absent old new k r.stamp (stamp_of_record (record_in old k)) absent rows) (λ t. ap (λ (o : Option RecordValue). outdates o r.stamp t) none ∙ outdates-none r.stamp t)
+          let none : record_in old k ≡ None = row-record old k ∙ ap record_of_row absent in
+          unchanged (refused-absent old new k r.stamp (stamp_of_record (record_in old k)) absent rows) (λ t. ap (λ (o : Option RecordValue). outdates o r.stamp t) none ∙ outdates-none r.stamp t)
       | inr there ↦
-        let row = there.0 in
-        let held : record_in old k ≡ Some row.rec = row-record old k ∙ ap record_of_row there.1 in
-        let here : olds_in old k ≡ row.olds = row-olds old k ∙ ap olds_of_row there.1 in
-        let lower : stamp_lt row.rec.stamp r.stamp ≡ false = ap (λ (o : Option RecordValue). stamp_lt (stamp_of_record o) r.stamp) (sym held) ∙ below in
-        let at_row : MatchBool (stamp_lt r.stamp row.rec.stamp) (AddsOld old new k r.stamp) (SameRows old new) = subst (λ (o : Option RecordValue). MatchBool (stamp_lt r.stamp (stamp_of_record o)) (AddsOld old new k r.stamp) (SameRows old new)) held rows in
-        elim (cases_bool (stamp_lt r.stamp row.rec.stamp)) [
-          | inl adds ↦
-            let added : AddsOld old new k r.stamp = rw adds at at_row in
-            let puts : PutsRow old new k (record row { olds = insert_stamp r.stamp row.olds }) = subst (λ (o : Option Row). MatchOption o (SameRows old new) (λ x. PutsRow old new k (record x { olds = insert_stamp r.stamp x.olds }))) there.1 added in
-            let out : (t : Timestamp) → has_stamp (insert_stamp r.stamp row.olds) t ≡ (outdates (record_in old k) r.stamp t || has_stamp (olds_in old k) t) =
-            λ t. has_stamp-insert r.stamp row.olds t ∙ ap (λ (b : Bool). b || has_stamp row.olds t) (sym (outdates-own row.rec r.stamp t lower adds)) ∙ ap (λ (o : Option RecordValue). outdates o r.stamp t || has_stamp row.olds t) (sym held) ∙ ap (λ (xs : List Timestamp). outdates (record_in old k) r.stamp t || has_stamp xs t) (sym here) in
-            done (kept-record old new k row (insert_stamp r.stamp row.olds) there.1 puts)
-            (λ key t. puts-olds old new k (record row { olds = insert_stamp r.stamp row.olds }) puts key t ∙ at_key k key (λ x. has_stamp (olds_in old x) t) (has_stamp (insert_stamp r.stamp row.olds) t) (outdates (record_in old k) r.stamp t) (out t))
-          | inr equal ↦ unchanged (rw equal at at_row) (λ t. ap (λ (o : Option RecordValue). outdates o r.stamp t) held ∙ outdates-equal row.rec r.stamp t lower equal)
-        ]
+          let row = there.0 in
+          let held : record_in old k ≡ Some row.rec = row-record old k ∙ ap record_of_row there.1 in
+          let here : olds_in old k ≡ row.olds = row-olds old k ∙ ap olds_of_row there.1 in
+          let lower : stamp_lt row.rec.stamp r.stamp ≡ false = ap (λ (o : Option RecordValue). stamp_lt (stamp_of_record o) r.stamp) (sym held) ∙ below in
+          let at_row : MatchBool (stamp_lt r.stamp row.rec.stamp) (AddsOld old new k r.stamp) (SameRows old new) = subst (λ (o : Option RecordValue). MatchBool (stamp_lt r.stamp (stamp_of_record o)) (AddsOld old new k r.stamp) (SameRows old new)) held rows in
+          elim (cases_bool (stamp_lt r.stamp row.rec.stamp)) [
+            | inl adds ↦
+                let added : AddsOld old new k r.stamp = rw adds at at_row in
+                let puts : PutsRow old new k (record row { olds = insert_stamp r.stamp row.olds }) = subst (λ (o : Option Row). MatchOption o (SameRows old new) (λ x. PutsRow old new k (record x { olds = insert_stamp r.stamp x.olds }))) there.1 added in
+                let out : (t : Timestamp) → has_stamp (insert_stamp r.stamp row.olds) t ≡ (outdates (record_in old k) r.stamp t || has_stamp (olds_in old k) t) =
+                λ t. has_stamp-insert r.stamp row.olds t ∙ ap (λ (b : Bool). b || has_stamp row.olds t) (sym (outdates-own row.rec r.stamp t lower adds)) ∙ ap (λ (o : Option RecordValue). outdates o r.stamp t || has_stamp row.olds t) (sym held) ∙ ap (λ (xs : List Timestamp). outdates (record_in old k) r.stamp t || has_stamp xs t) (sym here) in
+                done (kept-record old new k row (insert_stamp r.stamp row.olds) there.1 puts)
+                (λ key t. puts-olds old new k (record row { olds = insert_stamp r.stamp row.olds }) puts key t ∙ at_key k key (λ x. has_stamp (olds_in old x) t) (has_stamp (insert_stamp r.stamp row.olds) t) (outdates (record_in old k) r.stamp t) (out t))
+            | inr equal ↦ unchanged (rw equal at at_row) (λ t. ap (λ (o : Option RecordValue). outdates o r.stamp t) held ∙ outdates-equal row.rec r.stamp t lower equal)
+          ]
     ]
 
 pub serves-forget : (old new : List Row) (W : List Watcher) (before : List MetaAsk) (client op : ℕ) (k : List ℕ) (stamps : List Timestamp) → Serves old W before
@@ -211,16 +206,16 @@ serves-forget old new W before client op k stamps s rows =
     λ records olds. stands-forget R L W before s client op k stamps (λ key. record_in new key) (λ key t. has_stamp (olds_in new key) t) records olds in
     elim (cases_row (row_of old k)) [
       | inl absent ↦
-        let same : SameRows old new = subst (λ (o : Option Row). MatchOption o (SameRows old new) (λ row. PutsRow old new k (record row { olds = filter (λ stamp. not (has_stamp stamps stamp)) row.olds }))) absent rows in
-        let empty : (t : Timestamp) → has_stamp (olds_in old k) t ≡ false = λ t. ap (λ (xs : List Timestamp). has_stamp xs t) (row-olds old k ∙ ap olds_of_row absent) ∙ has-none t in
-        done (same-record old new same) (λ key t. same-olds old new same key t ∙ forgets-none k key (λ x. has_stamp (olds_in old x) t) (has_stamp stamps t) (empty t))
+          let same : SameRows old new = subst (λ (o : Option Row). MatchOption o (SameRows old new) (λ row. PutsRow old new k (record row { olds = filter (λ stamp. not (has_stamp stamps stamp)) row.olds }))) absent rows in
+          let empty : (t : Timestamp) → has_stamp (olds_in old k) t ≡ false = λ t. ap (λ (xs : List Timestamp). has_stamp xs t) (row-olds old k ∙ ap olds_of_row absent) ∙ has-none t in
+          done (same-record old new same) (λ key t. same-olds old new same key t ∙ forgets-none k key (λ x. has_stamp (olds_in old x) t) (has_stamp stamps t) (empty t))
       | inr there ↦
-        let row = there.0 in
-        let kept : List Timestamp = filter (λ stamp. not (has_stamp stamps stamp)) row.olds in
-        let puts : PutsRow old new k (record row { olds = kept }) = subst (λ (o : Option Row). MatchOption o (SameRows old new) (λ x. PutsRow old new k (record x { olds = filter (λ stamp. not (has_stamp stamps stamp)) x.olds }))) there.1 rows in
-        let here : olds_in old k ≡ row.olds = row-olds old k ∙ ap olds_of_row there.1 in
-        let left : (t : Timestamp) → has_stamp kept t ≡ (not (has_stamp stamps t) && has_stamp (olds_in old k) t) = λ t. has_stamp-filter (λ stamp. not (has_stamp stamps stamp)) row.olds t ∙ ap (λ (xs : List Timestamp). not (has_stamp stamps t) && has_stamp xs t) (sym here) in
-        done (kept-record old new k row kept there.1 puts) (λ key t. puts-olds old new k (record row { olds = kept }) puts key t ∙ forgets-at k key (λ x. has_stamp (olds_in old x) t) (has_stamp kept t) (has_stamp stamps t) (left t))
+          let row = there.0 in
+          let kept : List Timestamp = filter (λ stamp. not (has_stamp stamps stamp)) row.olds in
+          let puts : PutsRow old new k (record row { olds = kept }) = subst (λ (o : Option Row). MatchOption o (SameRows old new) (λ x. PutsRow old new k (record x { olds = filter (λ stamp. not (has_stamp stamps stamp)) x.olds }))) there.1 rows in
+          let here : olds_in old k ≡ row.olds = row-olds old k ∙ ap olds_of_row there.1 in
+          let left : (t : Timestamp) → has_stamp kept t ≡ (not (has_stamp stamps t) && has_stamp (olds_in old k) t) = λ t. has_stamp-filter (λ stamp. not (has_stamp stamps stamp)) row.olds t ∙ ap (λ (xs : List Timestamp). not (has_stamp stamps t) && has_stamp xs t) (sym here) in
+          done (kept-record old new k row kept there.1 puts) (λ key t. puts-olds old new k (record row { olds = kept }) puts key t ∙ forgets-at k key (λ x. has_stamp (olds_in old x) t) (has_stamp kept t) (has_stamp stamps t) (left t))
     ]
 
 pub serves-empty : (rows : List Row) (W : List Watcher) → rows ≡ [] → W ≡ [] → Serves rows W []

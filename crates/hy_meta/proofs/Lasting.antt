@@ -1,22 +1,15 @@
 -- What lasts over any further requests.
-use Rattle.std.proofs.Common.{◌≡◌, ℕ, ◌+◌, Bool, true, false, cond, not, List, [], ◌∷◌, ◌++◌, Option, Some, None, refl, sym, ap, subst, ◌∙◌, inl, inr, arith}
-use Rattle.std.specs.Prelude.{◌&&◌, ◌||◌, ◌⊎◌, filter, map, count_by}
+use Rattle.std.proofs.Common.{◌≡◌, ℕ, Bool, true, false, cond, not, List, [], ◌∷◌, ◌++◌, Option, Some, None, refl, sym, ap, subst, ◌∙◌, inl, inr}
+use Rattle.std.specs.Prelude.{◌&&◌, ◌||◌, ◌⊎◌}
 use Rattle.std.proofs.lemmas.Bool.{false≢true}
 use Rattle.hy_record.specs.declared.message.MetaAsk.{MetaAsk}
 use Rattle.hy_record.specs.declared.message.MetaAsk.TheVariants as asks
-use Rattle.hy_record.specs.declared.message.MetaSay.{MetaSay}
-use Rattle.hy_record.specs.declared.message.MetaSay.TheVariants as says
 use Rattle.hy_record.specs.Stamp.{Timestamp, stamp_lt, stamp_eq}
 use Rattle.hy_record.specs.Key.{key_eq}
 use Rattle.hy_record.specs.Record.{RecordValue}
 use Rattle.hy_record.proofs.Order.{key_eq-true, key_eq-same, stamp_eq-true, stamp_lt-same, stamp_lt-le, stamp_lt-other, stamp_ge-trans}
-use Rattle.hy_meta.specs.declared.watcher.Watcher.{Watcher}
 use Rattle.hy_meta.specs.Service.{stamp_of_record, record_after, record_stamp, outdates, has_stamp, is_old}
-use Rattle.hy_meta.specs.Watches.{watches_of, is_passed, fired_watches, is_waiting, fired, service_answers}
-use Rattle.hy_meta.specs.Held.{is_due}
-use Rattle.hy_meta.specs.Run.{answers_of, watcher_eq, tells_of}
-use Rattle.hy_meta.proofs.Rising.{cases_bool, both, pair, neither}
-use Rattle.hy_meta.proofs.Steps.{filter-same, filter-twice, record_after-applied, record_after-refused, is_waiting-refused, is_waiting-applied, is_passed-waiting}
+use Rattle.hy_meta.proofs.Rising.{cases_bool, both}
 
 pub update-own : (before : List MetaAsk) (client op : ℕ) (key : List ℕ) (r : RecordValue) → record_after (asks.Update client op key r ∷ before) key ≡ cond (stamp_lt (record_stamp before key) r.stamp) (Some r) (record_after before key)
 unfolding record_after record_stamp
@@ -37,11 +30,11 @@ update-after before client op key r =
     let own = update-own before client op key r in
     elim (cases_bool (stamp_lt (record_stamp before key) r.stamp)) [
       | inl above ↦
-        let is : record_stamp (asks.Update client op key r ∷ before) key ≡ r.stamp = stamp-is (asks.Update client op key r ∷ before) key (Some r) (own ∙ rw above refl) in
-        rw is (stamp_lt-same r.stamp, stamp_lt-other (record_stamp before key) r.stamp above)
+          let is : record_stamp (asks.Update client op key r ∷ before) key ≡ r.stamp = stamp-is (asks.Update client op key r ∷ before) key (Some r) (own ∙ rw above refl) in
+          rw is (stamp_lt-same r.stamp, stamp_lt-other (record_stamp before key) r.stamp above)
       | inr not_above ↦
-        let same : record_stamp (asks.Update client op key r ∷ before) key ≡ record_stamp before key = stamp-is (asks.Update client op key r ∷ before) key (record_after before key) (own ∙ rw not_above refl) ∙ sym (stamp-is before key (record_after before key) refl) in
-        rw same (not_above, stamp_lt-same (record_stamp before key))
+          let same : record_stamp (asks.Update client op key r ∷ before) key ≡ record_stamp before key = stamp-is (asks.Update client op key r ∷ before) key (record_after before key) (own ∙ rw not_above refl) ∙ sym (stamp-is before key (record_after before key) refl) in
+          rw same (not_above, stamp_lt-same (record_stamp before key))
     ]
 
 stays : (served before : List MetaAsk) (key : List ℕ) → record_after served key ≡ record_after before key → stamp_lt (record_stamp served key) (record_stamp before key) ≡ false
@@ -81,11 +74,11 @@ outdated-below None new s e = absurd (false≢true e)
 outdated-below (Some r) new s e =
     elim (either (stamp_eq r.stamp s && stamp_lt r.stamp new) (stamp_eq new s && stamp_lt new r.stamp) e) [
       | inl held ↦
-        let b = both (stamp_eq r.stamp s) (stamp_lt r.stamp new) held in
-        inl (b.1, ap (λ (t : Timestamp). stamp_lt t new) (sym (stamp_eq-true r.stamp s b.0)) ∙ b.1)
+          let b = both (stamp_eq r.stamp s) (stamp_lt r.stamp new) held in
+          inl (b.1, ap (λ (t : Timestamp). stamp_lt t new) (sym (stamp_eq-true r.stamp s b.0)) ∙ b.1)
       | inr own ↦
-        let b = both (stamp_eq new s) (stamp_lt new r.stamp) own in
-        inr (ap (λ (t : Timestamp). stamp_lt t r.stamp) (sym (stamp_eq-true new s b.0)) ∙ b.1)
+          let b = both (stamp_eq new s) (stamp_lt new r.stamp) own in
+          inr (ap (λ (t : Timestamp). stamp_lt t r.stamp) (sym (stamp_eq-true new s b.0)) ∙ b.1)
     ]
 
 later-below : (ask : MetaAsk) (before : List MetaAsk) (key : List ℕ) (s : Timestamp) → stamp_lt s (record_stamp before key) ≡ true → stamp_lt s (record_stamp (ask ∷ before) key) ≡ true
@@ -101,16 +94,16 @@ old-below (asks.Forget client op k stamps ∷ before) key s old = later-below (a
 old-below (asks.Update client op k r ∷ before) key s old =
     elim (either (key_eq k key && outdates (record_after before key) r.stamp s) (is_old before key s) old) [
       | inl made ↦
-        let b = both (key_eq k key) (outdates (record_after before key) r.stamp s) made in
-        let held : stamp_of_record (record_after before key) ≡ record_stamp before key = sym (stamp-is before key (record_after before key) refl) in
-        elim (outdated-below (record_after before key) r.stamp s b.1) [
-          | inl new ↦
-            let above : stamp_lt (record_stamp before key) r.stamp ≡ true = ap (λ (t : Timestamp). stamp_lt t r.stamp) (sym held) ∙ new.0 in
-            let own : record_after (asks.Update client op key r ∷ before) key ≡ Some r = update-own before client op key r ∙ rw above refl in
-            let is : record_stamp (asks.Update client op k r ∷ before) key ≡ r.stamp = ap (λ (x : List ℕ). record_stamp (asks.Update client op x r ∷ before) key) (key_eq-true k key b.0) ∙ stamp-is (asks.Update client op key r ∷ before) key (Some r) own in
-            ap (λ (t : Timestamp). stamp_lt s t) is ∙ new.1
-          | inr under ↦ later-below (asks.Update client op k r) before key s (ap (λ (t : Timestamp). stamp_lt s t) (sym held) ∙ under)
-        ]
+          let b = both (key_eq k key) (outdates (record_after before key) r.stamp s) made in
+          let held : stamp_of_record (record_after before key) ≡ record_stamp before key = sym (stamp-is before key (record_after before key) refl) in
+          elim (outdated-below (record_after before key) r.stamp s b.1) [
+            | inl new ↦
+                let above : stamp_lt (record_stamp before key) r.stamp ≡ true = ap (λ (t : Timestamp). stamp_lt t r.stamp) (sym held) ∙ new.0 in
+                let own : record_after (asks.Update client op key r ∷ before) key ≡ Some r = update-own before client op key r ∙ rw above refl in
+                let is : record_stamp (asks.Update client op k r ∷ before) key ≡ r.stamp = ap (λ (x : List ℕ). record_stamp (asks.Update client op x r ∷ before) key) (key_eq-true k key b.0) ∙ stamp-is (asks.Update client op key r ∷ before) key (Some r) own in
+                ap (λ (t : Timestamp). stamp_lt s t) is ∙ new.1
+            | inr under ↦ later-below (asks.Update client op k r) before key s (ap (λ (t : Timestamp). stamp_lt s t) (sym held) ∙ under)
+          ]
       | inr was ↦ later-below (asks.Update client op k r) before key s (old-below before key s was)
     ]
 

@@ -1,5 +1,5 @@
 -- Each watch fires at most once.
-use Rattle.std.proofs.Common.{◌≡◌, ℕ, ◌+◌, Bool, true, false, cond, not, List, [], ◌∷◌, ◌++◌, Option, Some, None, refl, sym, ap, subst, ◌∙◌, inl, inr, arith}
+use Rattle.std.proofs.Common.{◌≡◌, ℕ, ◌+◌, Bool, true, false, cond, not, List, [], ◌∷◌, ◌++◌, refl, sym, ap, ◌∙◌, inl, inr, arith}
 use Rattle.std.specs.Prelude.{◌&&◌, filter, map, count_by}
 use Rattle.std.proofs.Common.{zero-add, add_assoc}
 use Rattle.std.proofs.Math.Nat.{add_left_comm}
@@ -32,9 +32,9 @@ count-split c p q (w ∷ ws) =
     let one = filter (λ w. p w && not (q w)) ws in
     elim (cases_bool (p w)) [
       | inl passes ↦ elim (cases_bool (q w)) [
-          | inl too ↦ rw (passes, too) (count-cons c w (filter p ws) ∙ ap (λ (n : ℕ). cond (c w) 1 0 + n) rest ∙ sym (add_assoc (cond (c w) 1 0) (count_by c both) (count_by c one)) ∙ ap (λ (n : ℕ). n + count_by c one) (sym (count-cons c w both)))
-          | inr apart ↦ rw (passes, apart) (count-cons c w (filter p ws) ∙ ap (λ (n : ℕ). cond (c w) 1 0 + n) rest ∙ add_left_comm (cond (c w) 1 0) (count_by c both) (count_by c one) ∙ ap (λ (n : ℕ). count_by c both + n) (sym (count-cons c w one)))
-        ]
+        | inl too ↦ rw (passes, too) (count-cons c w (filter p ws) ∙ ap (λ (n : ℕ). cond (c w) 1 0 + n) rest ∙ sym (add_assoc (cond (c w) 1 0) (count_by c both) (count_by c one)) ∙ ap (λ (n : ℕ). n + count_by c one) (sym (count-cons c w both)))
+        | inr apart ↦ rw (passes, apart) (count-cons c w (filter p ws) ∙ ap (λ (n : ℕ). cond (c w) 1 0 + n) rest ∙ add_left_comm (cond (c w) 1 0) (count_by c both) (count_by c one) ∙ ap (λ (n : ℕ). count_by c both + n) (sym (count-cons c w one)))
+      ]
       | inr fails ↦ rw fails rest
     ]
 
@@ -114,9 +114,10 @@ module _ (w : Watcher) where
       let v : Watcher = record { client = client; op = op; key = k; stamp = stamp } in
       let test : Watcher → Bool = λ x. not (stamp_lt x.stamp (stamp_of_record (record_after before x.key))) in
       let same : test v ≡ not b = ap not is in
-      let last : asked (cond (test v) (v ∷ []) []) ≡ cond (not b) (asked (v ∷ [])) 0 = ap (λ (t : Bool). asked (cond t (v ∷ []) [])) same ∙ cond_asked (not b) v in
-      (ap asked (filter-push test (watches_of before) v) ∙ count-append (λ x. watcher_eq w x) (filter test (watches_of before)) (cond (test v) (v ∷ []) []) ∙ ap (λ (n : ℕ). asked (filter test (watches_of before)) + n) last,
-        count-append (λ x. watcher_eq w x) (watches_of before) (v ∷ []))
+      let last : asked (cond (test v) (v ∷ []) []) ≡ cond (not b) (asked (v ∷ [])) 0 = ap (λ (t : Bool). asked (cond t (v ∷ []) [])) same ∙ cond_asked (not b) v in (
+        ap asked (filter-push test (watches_of before) v) ∙ count-append (λ x. watcher_eq w x) (filter test (watches_of before)) (cond (test v) (v ∷ []) []) ∙ ap (λ (n : ℕ). asked (filter test (watches_of before)) + n) last,
+        count-append (λ x. watcher_eq w x) (watches_of before) (v ∷ []),
+      )
 
   refused-waits : (before : List MetaAsk) (client op : ℕ) (k : List ℕ) (r : RecordValue) → stamp_lt (record_stamp before k) r.stamp ≡ false → waits (asks.Update client op k r ∷ before) ≡ waits before
   unfolding watches_of record_stamp
@@ -145,13 +146,13 @@ module _ (w : Watcher) where
       let more = told-more (asks.Watch client op k stamp) before in
       elim (cases_bool (stamp_lt stamp (record_stamp before k))) [
         | inl due ↦
-          let tells = due-tells before client op k stamp due in
-          let rest = watch-waits before client op k stamp true due in
-          omega (arith, so_far, more, tells, rest.0, rest.1)
+            let tells = due-tells before client op k stamp due in
+            let rest = watch-waits before client op k stamp true due in
+            omega (arith, so_far, more, tells, rest.0, rest.1)
         | inr waiting ↦
-          let tells = waits-silent before client op k stamp waiting in
-          let rest = watch-waits before client op k stamp false waiting in
-          omega (arith, so_far, more, tells, rest.0, rest.1)
+            let tells = waits-silent before client op k stamp waiting in
+            let rest = watch-waits before client op k stamp false waiting in
+            omega (arith, so_far, more, tells, rest.0, rest.1)
       ]
   fires-once (asks.Update client op k r ∷ before) =
       let so_far = fires-once before in

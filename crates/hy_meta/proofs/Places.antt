@@ -1,15 +1,15 @@
 -- Which row is that of a key, before and after a row was put.
-use Rattle.std.proofs.Common.{◌≡◌, ℕ, zero, suc, ◌+◌, ◌<◌, ◌≤◌, Bool, true, false, cond, not, List, [], ◌∷◌, ◌++◌, length, get_or, Option, Some, None, refl, sym, ap, subst, ◌∙◌, arith, inl, inr}
-use Rattle.std.specs.Prelude.{nat_lt, slice_set, filter, IfSome, IfNone, OnOk, MatchOption, Result, Ok, Err}
+use Rattle.std.proofs.Common.{◌≡◌, ℕ, zero, suc, ◌<◌, ◌≤◌, Bool, true, false, cond, not, List, [], ◌∷◌, ◌++◌, length, get_or, Option, Some, None, refl, sym, ap, ◌∙◌, arith, inl, inr}
+use Rattle.std.specs.Prelude.{nat_lt, slice_set, IfSome, IfNone, OnOk, MatchOption, Result, Ok, Err}
 use Rattle.std.specs.List.{find, prefix_len, position}
 use Rattle.std.proofs.Math.Numerals.{one-add}
-use Rattle.std.proofs.lemmas.Bool.{false≢true, ltb-true, ltb-false}
+use Rattle.std.proofs.lemmas.Bool.{ltb-true, ltb-false}
 use Rattle.hy_record.specs.Stamp.{Timestamp}
 use Rattle.hy_record.specs.Record.{RecordValue}
 use Rattle.hy_record.specs.Key.{key_eq}
 use Rattle.hy_record.proofs.Order.{key_eq-true}
 use Rattle.hy_meta.specs.declared.rows.Row.{Row}
-use Rattle.hy_meta.specs.Service.{has_stamp, insert_stamp}
+use Rattle.hy_meta.specs.Service.{insert_stamp}
 use Rattle.hy_meta.specs.Rows.{row_of, PutsRow, SameRows, superseded}
 use Rattle.hy_meta.proofs.Rising.{cases_bool}
 
@@ -72,8 +72,8 @@ later_is : (row new : Row) (rest after : Option Row) (key k : List ℕ) → key_
 later_is row new rest after key k apart is =
     elim (cases_bool (key_eq key k)) [
       | inl here ↦
-        let other : key_eq row.key k ≡ false = ap (λ (x : List ℕ). key_eq row.key x) (sym (key_eq-true key k here)) ∙ apart in
-        rw (other, here) (is ∙ rw here refl)
+          let other : key_eq row.key k ≡ false = ap (λ (x : List ℕ). key_eq row.key x) (sym (key_eq-true key k here)) ∙ apart in
+          rw (other, here) (is ∙ rw here refl)
       | inr other ↦ rw other (ap (λ (x : Option Row). cond (key_eq row.key k) (Some row) x) (is ∙ rw other refl))
     ]
 

@@ -1,14 +1,14 @@
 -- Rising lists of timestamps: what keeps them so, and that each is determined by what it has.
-use Rattle.std.proofs.Common.{◌≡◌, ℕ, zero, suc, ◌+◌, ◌<◌, ◌≤◌, Bool, true, false, cond, not, List, [], ◌∷◌, ◌++◌, length, take, drop, get_or, refl, sym, ap, subst, ◌∙◌, arith}
+use Rattle.std.proofs.Common.{◌≡◌, ℕ, zero, suc, ◌≤◌, Bool, true, false, List, [], ◌∷◌, length, take, refl, sym, ap, subst, ◌∙◌, arith}
 use Rattle.std.specs.Prelude.{◌&&◌, ◌||◌, ◌⊎◌, filter, insert, min}
-use Rattle.std.specs.List.{list_all, list_any, prefix_len}
+use Rattle.std.specs.List.{list_all, prefix_len}
 use Rattle.std.proofs.Common.{inl, inr}
 use Rattle.std.proofs.Math.Numerals.{one-add}
 use Rattle.std.proofs.lemmas.Bool.{false≢true, cases_lt}
 use Rattle.std.proofs.lemmas.List.{take_all}
 use Rattle.hy_record.specs.Stamp.{Timestamp, stamp_lt, stamp_eq}
-use Rattle.hy_record.specs.Stamps.{is_below_first, is_rising}
-use Rattle.hy_record.proofs.Order.{stamp_eq-true, stamp_eq-same, stamp_lt-same, stamp_lt-trans, stamp_lt-le, stamp_lt-other, stamp_lt-neither}
+use Rattle.hy_record.specs.Stamps.{is_rising}
+use Rattle.hy_record.proofs.Order.{stamp_eq-true, stamp_eq-same, stamp_lt-same, stamp_lt-trans, stamp_lt-other, stamp_lt-neither}
 use Rattle.hy_meta.specs.Service.{has_stamp, insert_stamp}
 
 pub cases_bool : (b : Bool) → (b ≡ true) ⊎ (b ≡ false)
@@ -107,9 +107,9 @@ below_all-insert x y (z ∷ zs) below all =
     elim (cases_bool (stamp_lt z y)) [
       | inl less ↦ rw less (pair (stamp_lt x z) (is_below_all x (insert_stamp y zs)) b.0 (below_all-insert x y zs below b.1))
       | inr more ↦ elim (cases_bool (stamp_eq z y)) [
-          | inl same ↦ rw (more, same) all
-          | inr other ↦ rw (more, other) (pair (stamp_lt x y) (is_below_all x (z ∷ zs)) below all)
-        ]
+        | inl same ↦ rw (more, same) all
+        | inr other ↦ rw (more, other) (pair (stamp_lt x y) (is_below_all x (z ∷ zs)) below all)
+      ]
     ]
 
 sorted-insert : (y : Timestamp) (xs : List Timestamp) → is_sorted xs ≡ true → is_sorted (insert_stamp y xs) ≡ true
@@ -120,11 +120,11 @@ sorted-insert y (z ∷ zs) e =
     elim (cases_bool (stamp_lt z y)) [
       | inl less ↦ rw less (pair (is_below_all z (insert_stamp y zs)) (is_sorted (insert_stamp y zs)) (below_all-insert z y zs less b.0) (sorted-insert y zs b.1))
       | inr more ↦ elim (cases_bool (stamp_eq z y)) [
-          | inl same ↦ rw (more, same) e
-          | inr other ↦
+        | inl same ↦ rw (more, same) e
+        | inr other ↦
             let below : stamp_lt y z ≡ true = elim (cases_bool (stamp_lt y z)) [ inl is_true ↦ is_true | inr is_false ↦ absurd (false≢true (sym other ∙ stamp_lt-neither z y more is_false)) ] in
             rw (more, other) (pair (is_below_all y (z ∷ zs)) (is_sorted (z ∷ zs)) (pair (stamp_lt y z) (is_below_all y zs) below (below_all-trans y z zs below b.0)) e)
-        ]
+      ]
     ]
 
 pub rising-insert : (y : Timestamp) (xs : List Timestamp) → is_rising xs ≡ true → is_rising (insert_stamp y xs) ≡ true
@@ -147,9 +147,9 @@ has_stamp-insert y (z ∷ zs) s =
     elim (cases_bool (stamp_lt z y)) [
       | inl less ↦ rw less (ap (λ (b : Bool). stamp_eq z s || b) (has_stamp-insert y zs s) ∙ or-swap (stamp_eq z s) (stamp_eq y s) (has_stamp zs s))
       | inr more ↦ elim (cases_bool (stamp_eq z y)) [
-          | inl same ↦ rw (more, same) (or-twice (stamp_eq z s) (has_stamp zs s) ∙ ap (λ (t : Timestamp). stamp_eq t s || (stamp_eq z s || has_stamp zs s)) (stamp_eq-true z y same))
-          | inr other ↦ rw (more, other) refl
-        ]
+        | inl same ↦ rw (more, same) (or-twice (stamp_eq z s) (has_stamp zs s) ∙ ap (λ (t : Timestamp). stamp_eq t s || (stamp_eq z s || has_stamp zs s)) (stamp_eq-true z y same))
+        | inr other ↦ rw (more, other) refl
+      ]
     ]
 
 or-true : (a : Bool) → (a || true) ≡ true
@@ -168,15 +168,15 @@ has_stamp-filter p (x ∷ xs) s =
     let rest = has_stamp-filter p xs s in
     elim (cases_bool (stamp_eq x s)) [
       | inl same ↦
-        let test : p x ≡ p s = ap p (stamp_eq-true x s same) in
-        elim (cases_bool (p x)) [
-          | inl is_true ↦ let too : p s ≡ true = sym test ∙ is_true in rw (is_true, same, too) refl
-          | inr is_false ↦ let too : p s ≡ false = sym test ∙ is_false in rw is_false (rest ∙ rw too refl)
-        ]
+          let test : p x ≡ p s = ap p (stamp_eq-true x s same) in
+          elim (cases_bool (p x)) [
+            | inl is_true ↦ let too : p s ≡ true = sym test ∙ is_true in rw (is_true, same, too) refl
+            | inr is_false ↦ let too : p s ≡ false = sym test ∙ is_false in rw is_false (rest ∙ rw too refl)
+          ]
       | inr other ↦ elim (cases_bool (p x)) [
-          | inl is_true ↦ rw (is_true, other) rest
-          | inr is_false ↦ rw (is_false, other) rest
-        ]
+        | inl is_true ↦ rw (is_true, other) rest
+        | inr is_false ↦ rw (is_false, other) rest
+      ]
     ]
 
 -- what is in a list is above what is below all of it
@@ -230,9 +230,9 @@ first-le : (x y : Timestamp) (xs ys : List Timestamp) → is_below_all y ys ≡ 
 first-le x y xs ys all same =
     elim (cases_bool (stamp_lt x y)) [
       | inl below ↦
-        let other : stamp_eq y x ≡ false = elim (cases_bool (stamp_eq y x)) [ inl eq ↦ absurd (false≢true (sym (stamp_lt-same x) ∙ ap (λ (t : Timestamp). stamp_lt x t) (sym (stamp_eq-true y x eq)) ∙ below)) | inr is_false ↦ is_false ] in
-        let has : has_stamp ys x ≡ true = sym (has-rest y x ys other) ∙ sym same ∙ has-first x xs in
-        absurd (false≢true (sym (stamp_lt-other x y below) ∙ has-above y x ys all has))
+          let other : stamp_eq y x ≡ false = elim (cases_bool (stamp_eq y x)) [ inl eq ↦ absurd (false≢true (sym (stamp_lt-same x) ∙ ap (λ (t : Timestamp). stamp_lt x t) (sym (stamp_eq-true y x eq)) ∙ below)) | inr is_false ↦ is_false ] in
+          let has : has_stamp ys x ≡ true = sym (has-rest y x ys other) ∙ sym same ∙ has-first x xs in
+          absurd (false≢true (sym (stamp_lt-other x y below) ∙ has-above y x ys all has))
       | inr not_below ↦ not_below
     ]
 
@@ -269,12 +269,12 @@ sorted-insert_same x (y ∷ ys) e has =
     let b = both (is_below_all y ys) (is_sorted ys) e in
     elim (cases_bool (stamp_eq y x)) [
       | inl same ↦
-        let least : stamp_lt y x ≡ false = ap (λ (t : Timestamp). stamp_lt y t) (sym (stamp_eq-true y x same)) ∙ stamp_lt-same y in
-        rw (least, same) refl
+          let least : stamp_lt y x ≡ false = ap (λ (t : Timestamp). stamp_lt y t) (sym (stamp_eq-true y x same)) ∙ stamp_lt-same y in
+          rw (least, same) refl
       | inr other ↦
-        let rest : has_stamp ys x ≡ true = sym (has-rest y x ys other) ∙ has in
-        let below : stamp_lt y x ≡ true = has-above y x ys b.0 rest in
-        rw below (ap (λ (t : List Timestamp). y ∷ t) (sorted-insert_same x ys b.1 rest))
+          let rest : has_stamp ys x ≡ true = sym (has-rest y x ys other) ∙ has in
+          let below : stamp_lt y x ≡ true = has-above y x ys b.0 rest in
+          rw below (ap (λ (t : List Timestamp). y ∷ t) (sorted-insert_same x ys b.1 rest))
     ]
 
 pub insert_stamp-has : (x : Timestamp) (xs : List Timestamp) → is_rising xs ≡ true → has_stamp xs x ≡ true → insert_stamp x xs ≡ xs

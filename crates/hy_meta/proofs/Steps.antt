@@ -1,11 +1,10 @@
 -- One request more: what each kind of request changes in the parts of a service, and what it is answered.
-use Rattle.std.proofs.Common.{◌≡◌, ℕ, Bool, true, false, cond, not, List, [], ◌∷◌, ◌++◌, take, Option, Some, None, refl, sym, ap, subst, ◌∙◌, inl, inr}
+use Rattle.std.proofs.Common.{◌≡◌, ℕ, Bool, true, false, cond, not, List, [], ◌∷◌, ◌++◌, take, Option, Some, None, refl, sym, ap, ◌∙◌, inl, inr}
 use Rattle.std.specs.Prelude.{◌&&◌, ◌||◌, ◌⊎◌, filter, map}
 use Rattle.std.proofs.lemmas.Bool.{false≢true}
 use Rattle.std.proofs.lemmas.List.{append-nil}
 use Rattle.hy_record.specs.declared.message.MetaAsk.{MetaAsk}
 use Rattle.hy_record.specs.declared.message.MetaAsk.TheVariants as asks
-use Rattle.hy_record.specs.declared.message.MetaSay.{MetaSay}
 use Rattle.hy_record.specs.declared.message.MetaSay.TheVariants as says
 use Rattle.hy_record.specs.Stamp.{Timestamp, stamp_lt, stamp_eq}
 use Rattle.hy_record.specs.Stamps.{is_rising}
@@ -13,10 +12,10 @@ use Rattle.hy_record.specs.Key.{key_eq}
 use Rattle.hy_record.specs.Record.{RecordValue}
 use Rattle.hy_record.proofs.Order.{key_eq-true, key_eq-same, stamp_eq-true, stamp_eq-same, stamp_lt-trans}
 use Rattle.hy_meta.specs.declared.watcher.Watcher.{Watcher}
-use Rattle.hy_meta.specs.Service.{stamp_of_record, record_after, record_stamp, outdates, has_stamp, is_old, insert_stamp, known_stamps, old_list}
+use Rattle.hy_meta.specs.Service.{stamp_of_record, record_after, record_stamp, outdates, has_stamp, is_old, known_stamps, old_list}
 use Rattle.hy_meta.specs.Watches.{watches_of, is_passed, fired_watches, is_waiting, fired, service_answers, StandsFor}
 use Rattle.hy_meta.specs.Held.{is_due}
-use Rattle.hy_meta.proofs.Rising.{cases_bool, both, pair, neither, rising-insert, rising-filter, rising-same, has_stamp-insert, has_stamp-filter}
+use Rattle.hy_meta.proofs.Rising.{cases_bool, both, rising-insert, rising-filter, rising-same, has_stamp-insert, has_stamp-filter}
 
 -- filters by tests that agree are one
 pub filter-same : (p q : Watcher → Bool) → ((w : Watcher) → p w ≡ q w) → (ws : List Watcher) → filter p ws ≡ filter q ws
@@ -54,8 +53,8 @@ unfolding record_after
 record_after-applied before client op k r key above =
     elim (cases_bool (key_eq k key)) [
       | inl same ↦
-        let here : stamp_lt (stamp_of_record (record_after before key)) r.stamp ≡ true = ap (λ (x : List ℕ). stamp_lt (stamp_of_record (record_after before x)) r.stamp) (sym (key_eq-true k key same)) ∙ above in
-        rw (same, here) refl
+          let here : stamp_lt (stamp_of_record (record_after before key)) r.stamp ≡ true = ap (λ (x : List ℕ). stamp_lt (stamp_of_record (record_after before x)) r.stamp) (sym (key_eq-true k key same)) ∙ above in
+          rw (same, here) refl
       | inr other ↦ rw other refl
     ]
 
@@ -65,8 +64,8 @@ unfolding record_after
 record_after-refused before client op k r key below =
     elim (cases_bool (key_eq k key)) [
       | inl same ↦
-        let here : stamp_lt (stamp_of_record (record_after before key)) r.stamp ≡ false = ap (λ (x : List ℕ). stamp_lt (stamp_of_record (record_after before x)) r.stamp) (sym (key_eq-true k key same)) ∙ below in
-        rw (same, here) refl
+          let here : stamp_lt (stamp_of_record (record_after before key)) r.stamp ≡ false = ap (λ (x : List ℕ). stamp_lt (stamp_of_record (record_after before x)) r.stamp) (sym (key_eq-true k key same)) ∙ below in
+          rw (same, here) refl
       | inr other ↦ rw other refl
     ]
 
@@ -92,21 +91,20 @@ is_waiting-applied before client op k r w above =
     let after = record_after-applied before client op k r w.key above in
     elim (cases_bool (key_eq k w.key)) [
       | inl same ↦
-        let key : k ≡ w.key = key_eq-true k w.key same in
-        let back : key_eq w.key k ≡ true = ap (λ (x : List ℕ). key_eq x k) (sym key) ∙ key_eq-same k in
-        let here : stamp_lt (stamp_of_record (record_after before w.key)) r.stamp ≡ true = ap (λ (x : List ℕ). stamp_lt (stamp_of_record (record_after before x)) r.stamp) (sym key) ∙ above in
-        let is : record_after (asks.Update client op k r ∷ before) w.key ≡ Some r = after ∙ rw same refl in
-        rw (is, back) (and-not (stamp_lt w.stamp (stamp_of_record (record_after before w.key))) (stamp_lt w.stamp r.stamp) (λ below. stamp_lt-trans w.stamp (stamp_of_record (record_after before w.key)) r.stamp below here))
+          let key : k ≡ w.key = key_eq-true k w.key same in
+          let back : key_eq w.key k ≡ true = ap (λ (x : List ℕ). key_eq x k) (sym key) ∙ key_eq-same k in
+          let here : stamp_lt (stamp_of_record (record_after before w.key)) r.stamp ≡ true = ap (λ (x : List ℕ). stamp_lt (stamp_of_record (record_after before x)) r.stamp) (sym key) ∙ above in
+          let is : record_after (asks.Update client op k r ∷ before) w.key ≡ Some r = after ∙ rw same refl in
+          rw (is, back) (and-not (stamp_lt w.stamp (stamp_of_record (record_after before w.key))) (stamp_lt w.stamp r.stamp) (λ below. stamp_lt-trans w.stamp (stamp_of_record (record_after before w.key)) r.stamp below here))
       | inr other ↦
-        let back : key_eq w.key k ≡ false = key_eq-other k w.key other in
-        let is : record_after (asks.Update client op k r ∷ before) w.key ≡ record_after before w.key = after ∙ rw other refl in
-        rw (is, back) (and-true (not (stamp_lt w.stamp (stamp_of_record (record_after before w.key)))))
+          let back : key_eq w.key k ≡ false = key_eq-other k w.key other in
+          let is : record_after (asks.Update client op k r ∷ before) w.key ≡ record_after before w.key = after ∙ rw other refl in
+          rw (is, back) (and-true (not (stamp_lt w.stamp (stamp_of_record (record_after before w.key)))))
     ]
 
 and-nothing : (a : Bool) → (a && false) ≡ false
 and-nothing true = refl
 and-nothing false = refl
-
 
 -- the watches that an update passes are those that wait and are due
 pub is_passed-waiting : (before : List MetaAsk) (k : List ℕ) (stamp : Timestamp) (w : Watcher) → is_passed before k stamp w ≡ (is_waiting before w && is_due k stamp w)
@@ -114,9 +112,9 @@ unfolding is_passed is_waiting is_due record_stamp
 is_passed-waiting before k stamp w =
     elim (cases_bool (key_eq w.key k)) [
       | inl same ↦
-        let key : w.key ≡ k = key_eq-true w.key k same in
-        let held : stamp_of_record (record_after before k) ≡ stamp_of_record (record_after before w.key) = ap (λ (x : List ℕ). stamp_of_record (record_after before x)) (sym key) in
-        rw (same, held) refl
+          let key : w.key ≡ k = key_eq-true w.key k same in
+          let held : stamp_of_record (record_after before k) ≡ stamp_of_record (record_after before w.key) = ap (λ (x : List ℕ). stamp_of_record (record_after before x)) (sym key) in
+          rw (same, held) refl
       | inr other ↦ let none : (not (stamp_lt w.stamp (stamp_of_record (record_after before w.key))) && false) ≡ false = and-nothing _ in rw other (sym none)
     ]
 
@@ -158,10 +156,10 @@ record-known (asks.Forget client op k stamps ∷ before) key r is = record-known
 record-known (asks.Update client op k new ∷ before) key r is =
     elim (cases_bool (key_eq k key && stamp_lt (stamp_of_record (record_after before key)) new.stamp)) [
       | inl applied ↦
-        let same = (both (key_eq k key) (stamp_lt (stamp_of_record (record_after before key)) new.stamp) applied).0 in
-        let one : Some new ≡ Some r = rw applied at is in
-        let eq : new ≡ r = cc in
-        known-new before client op k new key r.stamp same (ap (λ (x : RecordValue). stamp_eq new.stamp x.stamp) (sym eq) ∙ stamp_eq-same new.stamp)
+          let same = (both (key_eq k key) (stamp_lt (stamp_of_record (record_after before key)) new.stamp) applied).0 in
+          let one : Some new ≡ Some r = rw applied at is in
+          let eq : new ≡ r = cc in
+          known-new before client op k new key r.stamp same (ap (λ (x : RecordValue). stamp_eq new.stamp x.stamp) (sym eq) ∙ stamp_eq-same new.stamp)
       | inr refused ↦ known-kept before client op k new key r.stamp (record-known before key r (rw refused at is))
     ]
 
@@ -186,11 +184,11 @@ old-known (asks.Forget client op k stamps ∷ before) key s old = old-known befo
 old-known (asks.Update client op k new ∷ before) key s old =
     elim (either (key_eq k key && outdates (record_after before key) new.stamp s) (is_old before key s) old) [
       | inl made ↦
-        let b = both (key_eq k key) (outdates (record_after before key) new.stamp s) made in
-        elim (outdates-cases (record_after before key) new.stamp s b.1) [
-          | inl held ↦ known-kept before client op k new key s (ap (λ (t : Timestamp). has_stamp (known_stamps before key) t) (sym (stamp_eq-true held.0.stamp s held.2)) ∙ record-known before key held.0 held.1)
-          | inr own ↦ known-new before client op k new key s b.0 own
-        ]
+          let b = both (key_eq k key) (outdates (record_after before key) new.stamp s) made in
+          elim (outdates-cases (record_after before key) new.stamp s b.1) [
+            | inl held ↦ known-kept before client op k new key s (ap (λ (t : Timestamp). has_stamp (known_stamps before key) t) (sym (stamp_eq-true held.0.stamp s held.2)) ∙ record-known before key held.0 held.1)
+            | inr own ↦ known-new before client op k new key s b.0 own
+          ]
       | inr was ↦ known-kept before client op k new key s (old-known before key s was)
     ]
 
@@ -294,7 +292,7 @@ module _ (R : List ℕ → Option RecordValue) (L : List ℕ → Timestamp → B
         records = λ key. records key ∙ ap (λ (o : Option RecordValue). cond (key_eq k key) (Some r) o) (s.records key) ∙ sym (record_after-applied before client op k r key held);
         olds = λ key t. olds key t ∙ olds-update client op k r key t;
         watches = watches ∙ ap (λ (ws : List Watcher). filter (λ w. not (is_due k r.stamp w)) ws) s.watches ∙ filter-twice (λ w. not (is_due k r.stamp w)) (λ w. is_waiting before w) (watches_of before)
-          ∙ filter-same (λ w. is_waiting before w && not (is_due k r.stamp w)) (λ w. is_waiting (asks.Update client op k r ∷ before) w) (λ w. sym (is_waiting-applied before client op k r w held)) (watches_of before);
+            ∙ filter-same (λ w. is_waiting before w && not (is_due k r.stamp w)) (λ w. is_waiting (asks.Update client op k r ∷ before) w) (λ w. sym (is_waiting-applied before client op k r w held)) (watches_of before);
       }
 
   pub says-read : (client op : ℕ) (k : List ℕ) → says.Has client op k (R k) ∷ [] ≡ service_answers before (asks.Read client op k)

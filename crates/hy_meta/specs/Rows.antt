@@ -1,11 +1,11 @@
 -- What a list of rows keeps of a key: that of its first row of the key.
-use Rattle.std.specs.Prelude.{◌≡◌, ℕ, List, [], ◌∷◌, Option, Some, None, MatchOption, if◌then◌else◌}
+use Rattle.std.specs.Prelude.{◌≡◌, ℕ, List, [], Option, Some, None, MatchOption, if◌then◌else◌}
 use Rattle.std.specs.List.{find}
 use Rattle.hy_record.specs.Stamp.{Timestamp}
 use Rattle.hy_record.specs.Key.{key_eq}
 use Rattle.hy_record.specs.Record.{RecordValue}
 use Rattle.hy_meta.specs.declared.rows.Row.{Row}
-use Rattle.hy_meta.specs.Service.{has_stamp, insert_stamp}
+use Rattle.hy_meta.specs.Service.{insert_stamp}
 
 -- the row of the key, or none
 unfoldable pub row_of : List Row → List ℕ → Option Row

@@ -1,5 +1,5 @@
 -- What was answered so far, and which watch a message tells of.
-use Rattle.std.specs.Prelude.{ℕ, Bool, false, ◌&&◌, ◌==◌, List, [], ◌∷◌, ◌++◌}
+use Rattle.std.specs.Prelude.{Bool, false, ◌&&◌, ◌==◌, List, [], ◌∷◌, ◌++◌}
 use Rattle.hy_record.specs.declared.message.MetaAsk.{MetaAsk}
 use Rattle.hy_record.specs.declared.message.MetaSay.{MetaSay}
 use Rattle.hy_record.specs.declared.message.MetaSay.TheVariants as says

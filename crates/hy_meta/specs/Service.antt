@@ -1,5 +1,5 @@
 -- The metadata service: what it keeps, and what it answers, by the requests that it served. These are listed newest first.
-use Rattle.std.specs.Prelude.{◌≡◌, ℕ, Bool, true, false, ◌&&◌, ◌||◌, not, List, [], ◌∷◌, ◌++◌, map, filter, take, Option, Some, None, if◌then◌else◌}
+use Rattle.std.specs.Prelude.{ℕ, Bool, false, ◌&&◌, ◌||◌, not, List, [], ◌∷◌, filter, take, Option, Some, None, if◌then◌else◌}
 use Rattle.std.specs.List.{list_any}
 use Rattle.hy_record.specs.declared.message.MetaAsk.{MetaAsk}
 use Rattle.hy_record.specs.declared.message.MetaAsk.TheVariants.{Read, Update, Watch, Olds, Forget}

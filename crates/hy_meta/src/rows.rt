@@ -52,11 +52,7 @@ pub(crate) fn find<'a>(rows: &'a [Row], key: &Key) -> Option<&'a Row>
 
 /// A copy of the key's record.
 #[tactic(auto, unfolding(crate::specs::Rows::record_in))]
-pub(crate) fn copied(
-    alloc: Global,
-    rows: &[Row],
-    key: &Key,
-) -> Result<Option<Record>, NoMemory>
+pub(crate) fn copied(alloc: Global, rows: &[Row], key: &Key) -> Result<Option<Record>, NoMemory>
     ensures { IfOk result (λ rec. rec ≡ record_in rows.now key.now) }
 {
     match find(rows, key) {

@@ -41,13 +41,7 @@ impl Service {
         })
     }
 
-    fn read(
-        &self,
-        alloc: Global,
-        client: u32,
-        op: u32,
-        key: &Key,
-    ) -> Result<Vec<MetaSay>, NoMemory>
+    fn read(&self, alloc: Global, client: u32, op: u32, key: &Key) -> Result<Vec<MetaSay>, NoMemory>
         ensures { Says (Serves self.now.rows.items self.now.watches.items) (asks.Read client op key.now) result }
     {
         let rec = rows::copied(alloc, &self.rows, key)?;
@@ -96,27 +90,21 @@ impl Service {
         ensures goes_on { GoesOn (Serves self.old.rows.items self.old.watches.items) (Serves self.new.rows.items self.new.watches.items) (asks.Watch client op key.now stamp) result }
         ensures given { self.new.given ≡ self.old.given }
     {
-        let held = rows::held_stamp(&self.rows, key);
+        let reached = rows::held_stamp(&self.rows, key);
         let watcher = Watcher {
             client,
             op,
             key: *key,
             stamp,
         };
-        if stamp.is_below(&held) {
+        if stamp.is_below(&reached) {
             return one(alloc, watcher.fired());
         }
         self.watches.push(watcher)?;
         Ok(Vec::new(alloc))
     }
 
-    fn olds(
-        &self,
-        alloc: Global,
-        client: u32,
-        op: u32,
-        key: &Key,
-    ) -> Result<Vec<MetaSay>, NoMemory>
+    fn olds(&self, alloc: Global, client: u32, op: u32, key: &Key) -> Result<Vec<MetaSay>, NoMemory>
         ensures { Says (Serves self.now.rows.items self.now.watches.items) (asks.Olds client op key.now) result }
     {
         let stamps = rows::least_olds(alloc, &self.rows, key)?;
@@ -231,14 +219,14 @@ fn applied(
         key: *key,
         stamp,
     };
-    let mut says = Vec::new(alloc);
-    says.push(first)?;
+    let mut messages = Vec::new(alloc);
+    messages.push(first)?;
     for watcher in watches {
         if watcher.is_due(key, &stamp) {
-            says.push(watcher.fired())?;
+            messages.push(watcher.fired())?;
         }
     }
-    Ok(says)
+    Ok(messages)
 }
 
 /// One message.

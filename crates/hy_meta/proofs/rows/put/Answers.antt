@@ -1,11 +1,9 @@
 -- The key has its new row.
-use Rattle.std.proofs.Common.{◌≡◌, List, ap, sym, ◌∙◌, refl, Some, None}
+use Rattle.std.proofs.Common.{List, ap, ◌∙◌, Some, None}
 use Rattle.std.specs.List.{position}
-use Rattle.std.specs.Prelude.{not, filter}
 use Rattle.hy_record.specs.Stamp.{Timestamp}
 use Rattle.hy_record.specs.Key.{key_eq}
 use Rattle.hy_meta.specs.declared.rows.Row.{Row}
-use Rattle.hy_meta.specs.Service.{has_stamp, insert_stamp}
 use Rattle.hy_meta.proofs.Places.{on_ok, position-place, puts-superseded, puts-first}
 use Rattle.hy_meta.proofs.rows.put.Goals as goal
 

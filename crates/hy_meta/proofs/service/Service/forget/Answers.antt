@@ -1,14 +1,7 @@
 -- The timestamps are forgotten.
-use Rattle.std.proofs.Common.{◌≡◌, ◌∷◌, [], ℕ, List, Bool, true, false, take, sym, ap, subst, refl, ◌∙◌}
-use Rattle.std.specs.Prelude.{OnOk, IfOk}
-use Rattle.std.specs.Bool.{MatchBool}
-use Rattle.hy_record.specs.declared.message.MetaSay.TheVariants as says
-use Rattle.hy_record.specs.Stamp.{Timestamp, stamp_lt}
-use Rattle.hy_record.specs.Record.{RecordValue}
+use Rattle.std.proofs.Common.{List}
 use Rattle.hy_meta.specs.declared.rows.Row.{Row}
 use Rattle.hy_meta.specs.declared.watcher.Watcher.{Watcher}
-use Rattle.hy_meta.specs.Service.{stamp_of_record, has_stamp}
-use Rattle.hy_meta.specs.Rows.{row_of, record_in, olds_in, SameRows, AddsOld, PutsRow}
 use Rattle.hy_meta.proofs.Answering.{answers-forgot}
 use Rattle.hy_meta.proofs.Holds.{serves-forget}
 use Rattle.hy_meta.proofs.service.Service.forget.Goals as goal
@@ -26,4 +19,3 @@ returns-clause-goes_on c =
     let watches : List Watcher = c.args.self.now.watches.items in
     let k = c.args.key.now in
     λ before s. serves-forget rows c.remove_olds.new.rows.items watches before c.args.client c.args.op k c.args.stamps.now s (rw c.items.ensures.value at c.remove_olds.ensures)
-

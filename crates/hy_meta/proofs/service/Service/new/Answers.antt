@@ -1,5 +1,4 @@
 use Rattle.hy_meta.proofs.Holds.{serves-empty}
-use Rattle.hy_meta.proofs.Answering.{answers-read}
 use Rattle.hy_meta.proofs.service.Service.new.Goals as goal
 
 pub returns-clause-served : goal.returns-clause-served

@@ -1,14 +1,8 @@
 -- The least superseded timestamps are told.
-use Rattle.std.proofs.Common.{◌≡◌, ◌∷◌, [], ℕ, List, Bool, true, false, take, sym, ap, subst, refl, ◌∙◌}
-use Rattle.std.specs.Prelude.{OnOk, IfOk}
-use Rattle.std.specs.Bool.{MatchBool}
-use Rattle.hy_record.specs.declared.message.MetaSay.TheVariants as says
-use Rattle.hy_record.specs.Stamp.{Timestamp, stamp_lt}
-use Rattle.hy_record.specs.Record.{RecordValue}
+use Rattle.std.proofs.Common.{◌≡◌, List, ap}
 use Rattle.hy_meta.specs.declared.rows.Row.{Row}
 use Rattle.hy_meta.specs.declared.watcher.Watcher.{Watcher}
-use Rattle.hy_meta.specs.Service.{stamp_of_record, has_stamp}
-use Rattle.hy_meta.specs.Rows.{row_of, record_in, olds_in, SameRows, AddsOld, PutsRow}
+use Rattle.hy_meta.specs.Rows.{olds_in}
 use Rattle.hy_meta.proofs.Answering.{answers-olds}
 use Rattle.hy_meta.proofs.service.Service.olds.Goals as goal
 
@@ -19,4 +13,3 @@ returns c =
     let k = c.args.key.now in
     let at_it : olds_in c.deref.result.now k ≡ olds_in rows k = ap (λ (rs : List Row). olds_in rs k) c.deref.ensures.value in
     answers-olds rows watches c.args.client c.args.op k c.one.result (olds_in c.deref.result.now k) c.in_ok-stamps.stamps at_it c.in_ok-stamps.ensures.rising c.in_ok-stamps.ensures.front c.one.ensures
-

@@ -1,14 +1,8 @@
 -- The record of the key is told.
-use Rattle.std.proofs.Common.{◌≡◌, ◌∷◌, [], ℕ, List, Bool, true, false, take, sym, ap, subst, refl, ◌∙◌}
-use Rattle.std.specs.Prelude.{OnOk, IfOk}
-use Rattle.std.specs.Bool.{MatchBool}
-use Rattle.hy_record.specs.declared.message.MetaSay.TheVariants as says
-use Rattle.hy_record.specs.Stamp.{Timestamp, stamp_lt}
-use Rattle.hy_record.specs.Record.{RecordValue}
+use Rattle.std.proofs.Common.{◌≡◌, List, ap, ◌∙◌}
 use Rattle.hy_meta.specs.declared.rows.Row.{Row}
 use Rattle.hy_meta.specs.declared.watcher.Watcher.{Watcher}
-use Rattle.hy_meta.specs.Service.{stamp_of_record, has_stamp}
-use Rattle.hy_meta.specs.Rows.{row_of, record_in, olds_in, SameRows, AddsOld, PutsRow}
+use Rattle.hy_meta.specs.Rows.{record_in}
 use Rattle.hy_meta.proofs.Answering.{answers-read}
 use Rattle.hy_meta.proofs.service.Service.read.Goals as goal
 
@@ -19,4 +13,3 @@ returns c =
     let k = c.args.key.now in
     let is : c.in_ok-rec.rec ≡ record_in rows k = c.in_ok-rec.ensures ∙ ap (λ (rs : List Row). record_in rs k) c.deref.ensures.value in
     answers-read rows watches c.args.client c.args.op k c.one.result (rw is at c.one.ensures)
-

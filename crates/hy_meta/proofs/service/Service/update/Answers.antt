@@ -1,14 +1,12 @@
 -- An update is applied where its timestamp is above that of the record, and refused elsewhere.
-use Rattle.std.proofs.Common.{◌≡◌, ◌∷◌, [], ℕ, List, Bool, true, false, take, sym, ap, subst, refl, ◌∙◌}
-use Rattle.std.specs.Prelude.{OnOk, IfOk}
+use Rattle.std.proofs.Common.{◌≡◌, List, true, false, sym, ap, subst, ◌∙◌}
+use Rattle.std.specs.Prelude.{OnOk}
 use Rattle.std.specs.Bool.{MatchBool}
-use Rattle.hy_record.specs.declared.message.MetaSay.TheVariants as says
 use Rattle.hy_record.specs.Stamp.{Timestamp, stamp_lt}
-use Rattle.hy_record.specs.Record.{RecordValue}
 use Rattle.hy_meta.specs.declared.rows.Row.{Row}
 use Rattle.hy_meta.specs.declared.watcher.Watcher.{Watcher}
-use Rattle.hy_meta.specs.Service.{stamp_of_record, has_stamp}
-use Rattle.hy_meta.specs.Rows.{row_of, record_in, olds_in, SameRows, AddsOld, PutsRow}
+use Rattle.hy_meta.specs.Service.{stamp_of_record}
+use Rattle.hy_meta.specs.Rows.{record_in, SameRows, AddsOld}
 use Rattle.hy_meta.proofs.Answering.{answers-applied, goes-applied, answers-kept, goes-kept}
 use Rattle.hy_meta.proofs.service.Service.update.Goals as goal
 
@@ -49,4 +47,3 @@ returns-else-is_below-clause-goes_on c =
     let rows_then : OnOk c.refuse.result (MatchBool (stamp_lt c.args.rec.now.stamp c.held_stamp-held.result) (AddsOld rows c.refuse.new.self.rows.items k c.args.rec.now.stamp) (SameRows rows c.refuse.new.self.rows.items)) =
     subst (λ (t : Timestamp). OnOk c.refuse.result (MatchBool (stamp_lt t c.held_stamp-held.result) (AddsOld rows c.refuse.new.self.rows.items k t) (SameRows rows c.refuse.new.self.rows.items))) c.stamp-stamp.ensures c.refuse.ensures.rows in
     goes-kept rows watches c.args.client c.args.op k c.refuse.new.self.rows.items c.refuse.new.self.watches.items c.args.rec.now c.held_stamp-held.result c.refuse.result held order rows_then c.refuse.ensures.err c.refuse.ensures.watches
-

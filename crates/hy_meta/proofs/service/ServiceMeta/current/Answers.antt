@@ -1,11 +1,7 @@
 -- The record of a key is that of its row.
-use Rattle.std.proofs.Common.{◌≡◌, List, ap, sym, ◌∙◌, Some, None}
-use Rattle.hy_record.specs.Stamp.{Timestamp}
+use Rattle.std.proofs.Common.{◌≡◌, List, ap, ◌∙◌, Some, None}
 use Rattle.hy_meta.specs.declared.rows.Row.{Row}
-use Rattle.hy_meta.specs.Service.{has_stamp}
 use Rattle.hy_meta.specs.Rows.{row_of}
-use Rattle.std.specs.Option.{option_copied}
-use Rattle.hy_record.specs.Record.{RecordValue}
 use Rattle.hy_meta.proofs.Holds.{record_from}
 use Rattle.hy_meta.proofs.service.ServiceMeta.current.Goals as goal
 

@@ -1,6 +1,5 @@
 -- Requests that change nothing.
 use Rattle.std.proofs.Common.{List}
-use Rattle.hy_record.specs.Stamp.{Timestamp}
 use Rattle.hy_meta.specs.declared.rows.Row.{Row}
 use Rattle.hy_meta.specs.Service.{has_stamp}
 use Rattle.hy_meta.specs.Rows.{record_in, olds_in}
