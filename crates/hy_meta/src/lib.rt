@@ -15,3 +15,6 @@ pub use laws::{
 pub use meta::{Meta, SessionsFull};
 pub use service::Service;
 pub use watcher::Watcher;
+
+#[cfg(test)]
+mod tests;
