@@ -52,3 +52,8 @@ key_eq-true a b e = (slice_eq-Decides Decides-eqb a b (key_eq a b) refl).0 e
 pub key_eq-same : (a : List ℕ) → key_eq a a ≡ true
 unfolding key_eq
 key_eq-same a = (slice_eq-Decides Decides-eqb a a (key_eq a a) refl).1 refl
+
+-- a not below b, and b not below c
+pub stamp_ge-trans : (a b c : Timestamp) → stamp_lt a b ≡ false → stamp_lt b c ≡ false → stamp_lt a c ≡ false
+unfolding stamp_lt
+stamp_ge-trans a b c above below = grind (arith, nat_tests)

@@ -1,0 +1,6 @@
+pub mod Service
+pub mod Watches
+pub mod Sessions
+pub mod Rows
+pub mod Held
+pub mod Run

@@ -1,0 +1,38 @@
+//! Laws of every metadata service, above the definitions: each is a function without a body that ensures it.
+
+ghost use Rattle.std.specs.Prelude.{◌≡◌, ◌+◌, ◌≤◌, ◌∷◌, ◌++◌, ℕ, List, IsTrue, Some, true, false, not, filter, count_by, if◌then◌else◌};
+ghost use Rattle.hy_record.specs.declared.message.MetaAsk.{MetaAsk};
+ghost use Rattle.hy_record.specs.declared.message.MetaAsk.TheVariants as asks;
+ghost use Rattle.hy_record.specs.Stamp.{Timestamp, stamp_lt};
+ghost use Rattle.hy_record.specs.Key.{key_eq};
+ghost use Rattle.hy_record.specs.Record.{RecordValue};
+ghost use Rattle.hy_meta.specs.declared.watcher.Watcher.{Watcher};
+ghost use Rattle.hy_meta.specs.Service.{record_after, record_stamp, is_old};
+ghost use Rattle.hy_meta.specs.Watches.{watches_of, is_waiting};
+ghost use Rattle.hy_meta.specs.Run.{answers_of, watcher_eq, tells_of};
+
+/// The timestamp of a key's record never falls.
+pub fn record_never_falls()
+    ensures { (later before : List MetaAsk) (key : List ℕ) → stamp_lt (record_stamp (later ++ before) key) (record_stamp before key) ≡ false }
+{}
+
+/// An update makes its record that of its key exactly where its timestamp is above that of the record; no other key's record changes.
+pub fn updates_apply_where_above()
+    ensures own { (before : List MetaAsk) (client op : ℕ) (key : List ℕ) (r : RecordValue) → record_after (asks.Update client op key r ∷ before) key ≡ (if stamp_lt (record_stamp before key) r.stamp then Some r else record_after before key) }
+    ensures others { (before : List MetaAsk) (client op : ℕ) (key other : List ℕ) (r : RecordValue) → key_eq key other ≡ false → record_after (asks.Update client op key r ∷ before) other ≡ record_after before other }
+{}
+
+/// No update that was served has a timestamp above that of the record.
+pub fn no_update_is_above()
+    ensures { (later before : List MetaAsk) (client op : ℕ) (key : List ℕ) (r : RecordValue) → stamp_lt (record_stamp (later ++ asks.Update client op key r ∷ before) key) r.stamp ≡ false }
+{}
+
+/// What is superseded is below the record, and stays so for good.
+pub fn olds_stay_below()
+    ensures { (later before : List MetaAsk) (key : List ℕ) (stamp : Timestamp) → is_old before key stamp ≡ true → stamp_lt stamp (record_stamp (later ++ before) key) ≡ true }
+{}
+
+/// A watch fires at most once: what told of it, and what of it still waits, are the watches that were asked for.
+pub fn watches_fire_once()
+    ensures { (asks : List MetaAsk) (w : Watcher) → count_by (λ say. tells_of w say) (answers_of asks) + count_by (λ v. watcher_eq w v) (filter (λ v. is_waiting asks v) (watches_of asks)) ≡ count_by (λ v. watcher_eq w v) (watches_of asks) }
+{}

@@ -1,0 +1,20 @@
+//! The metadata service: it keeps the record of each key and its superseded timestamps, and fires one-time watches.
+#![tactic(auto)]
+
+mod laws;
+mod meta;
+mod olds;
+mod rows;
+mod service;
+mod watcher;
+
+pub use laws::{
+    no_update_is_above, olds_stay_below, record_never_falls, updates_apply_where_above,
+    watches_fire_once,
+};
+pub use meta::{Meta, SessionsFull};
+pub use service::Service;
+pub use watcher::Watcher;
+
+#[cfg(test)]
+mod tests;
