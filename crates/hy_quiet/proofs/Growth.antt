@@ -1,20 +1,14 @@
 -- How an event grows the history, the keys, and the numbers of a key.
-use Rattle.std.proofs.Common.{◌≡◌, ℕ, ◌+◌, Bool, true, false, cond, IsTrue, List, [], ◌∷◌, ◌++◌, length, map, filter, reverse, Option, Some, None, MatchOption, arith, refl, ap, ◌∙◌}
-use Rattle.std.proofs.lemmas.List.{reverse-append, length-reverse, map-append}
+use Rattle.std.proofs.Common.{◌≡◌, ℕ, ◌+◌, Bool, true, false, cond, List, [], ◌∷◌, ◌++◌, length, map, filter, reverse, Option, Some, None, refl, ap, ◌∙◌}
+use Rattle.std.proofs.lemmas.List.{reverse-append, map-append}
 use Rattle.std.proofs.lemmas.List.Elements.{filter-append}
-use Rattle.std.specs.List.{AllByRecursion}
 use Rattle.std.specs.Str.{bytes_eq}
-use Rattle.hy_record.specs.declared.action.Action.TheVariants as asked
-use Rattle.hy_record.specs.declared.action.Reply.TheVariants as told
-use Rattle.hy_order.specs.declared.operation.End.TheVariants.{Replied}
 use Rattle.hy_order.specs.declared.operation.Operation.{Operation}
-use Rattle.hy_order.specs.History.{key_of_action, is_reply_of, is_end_of, IsNumberedFrom, IsHistory}
+use Rattle.hy_order.specs.History.{key_of_action}
 use Rattle.hy_order.specs.Keys.{insert_key, sorted_keys}
 use Rattle.hy_order.specs.Linearization.{is_of_key}
 use Rattle.hy_quiet.specs.declared.event.Event.{Event}
-use Rattle.hy_quiet.specs.declared.event.Event.TheVariants.{Open, Put, Get}
-use Rattle.hy_quiet.specs.Event.{Version, is_joined, version_of, stamp_of_put}
-use Rattle.hy_quiet.specs.Replay.{steps_of, step_count, answer, operation_of, with_operation, operations, history_of, keys_of}
+use Rattle.hy_quiet.specs.Replay.{operation_of, with_operation, operations, history_of, keys_of}
 use Rattle.hy_quiet.specs.Run.{numbers_of}
 
 -- the operation of an event, the next after those before

@@ -1,5 +1,5 @@
 -- What a job comes to, when it does, and the text and the status that tell it.
-use Rattle.std.specs.Prelude.{◌≡◌, ℕ, ◌<◌, List, [], ◌∷◌, ◌++◌, length, reverse, codes, Option, Some, None, Ok, Err, map}
+use Rattle.std.specs.Prelude.{◌≡◌, ℕ, ◌<◌, List, [], ◌∷◌, length, reverse, codes, Err}
 use Rattle.std.specs.Fmt.{decimal}
 use Rattle.hy_base.specs.Faults.{Rose}
 use Rattle.hy_base.specs.Source.{Takes, IsAtEnd}
