@@ -1,3 +1,5 @@
+ghost use Rattle.std.specs.Prelude.{◌<◌};
+
 use super::*;
 use hy_record::{Key, MetaAsk, MetaSay, Record, Stamp, Stamps};
 use std::alloc::Global;
