@@ -3,53 +3,49 @@ use hy_base::{Blob, BytesIn, BytesOut, Cause, MAX_INPUT, TextFault};
 use std::alloc::Global;
 use std::test::Fail;
 
-const HEADER: &str = "hybris 1 f 0 k 1 liars -\n";
-
-/// What a call answers over an input and an output in memory, whose calls of these numbers fail.
-fn answer(
-    alloc: Global,
-    words: &[&str],
-    input: Blob,
-    failing_reads: Vec<u32>,
-    failing_writes: Vec<u32>,
-) -> Result<(Status, String), Fail> {
-    let mut all = Vec::new(alloc);
-    for word in words {
-        all.push(word.to_string(alloc)?)?;
-    }
-    let mut source = BytesIn::new(input, 7_000, failing_reads);
-    let mut sink = BytesOut::new(alloc, 4_096, failing_writes)?;
-    let status = run(alloc, &all, &mut source, &mut sink);
-    let written = String::from_utf8_lossy(alloc, sink.written())?;
-    Ok((status, written))
+/// A call of the program: the text of its input and how many line feeds stand behind it, the
+/// numbers of the read and the write that fail, or 0, and what it is to answer and to write.
+#[derive(Drop)]
+struct Row {
+    words: &'static [&'static str],
+    text: &'static str,
+    line_feeds: usize,
+    failing_read: u32,
+    failing_write: u32,
+    status: Status,
+    written: &'static str,
 }
 
-#[test]
-fn worked_schedules_give_their_reports(rt: HostRuntime) -> Result<(), Fail> {
-    let alloc = rt.alloc();
-    for (events, report) in [
-        (
-            "open\ndo 1 put a 616263\ndo 1 get a\n",
-            "op 1 1 put a 616263 2 8 done 1 1\nop 2 1 get a 9 13 value 616263 1 1\norder a 1 2\nheld a 1 1 0\nend 2 1\n",
-        ),
-        ("", "end 0 0\n"),
-        (
-            "open\ndo 1 get a\n",
-            "op 1 1 get a 2 4 none 0 0\norder a 1\nend 1 1\n",
-        ),
-    ] {
-        let text = format!(in alloc; "{HEADER}{events}")?;
-        let (status, written) = answer(
-            alloc,
-            &["replay"],
-            Blob::copy_of(alloc, text.as_bytes())?,
-            Vec::new(alloc),
-            Vec::new(alloc),
-        )?;
-        assert_eq!(rt; status, Status::Done);
-        assert_eq!(rt; written.as_str(), report);
+impl Row {
+    /// What the call answers over an input and an output in memory, and what it writes.
+    fn answer(&self, alloc: Global) -> Result<(Status, String), Fail> {
+        let words = self
+            .words
+            .iter()
+            .map(|word| word.to_string(alloc))
+            .try_collect(alloc)?;
+        let mut text = Vec::from_slice(alloc, self.text.as_bytes())?;
+        for _ in 0..self.line_feeds {
+            text.push(b'\n')?;
+        }
+        let mut source = BytesIn::new(Blob::of(text), 7_000, vec![in alloc; self.failing_read]?);
+        let mut sink = BytesOut::new(alloc, 4_096, vec![in alloc; self.failing_write]?)?;
+        let status = run(alloc, &words, &mut source, &mut sink);
+        Ok((status, String::from_utf8_lossy(alloc, sink.written())?))
     }
-    Ok(())
+}
+
+/// A replay of this text, where no call fails.
+fn replay_of(text: &'static str, status: Status, written: &'static str) -> Row {
+    Row {
+        words: &["replay"],
+        text,
+        line_feeds: 0,
+        failing_read: 0,
+        failing_write: 0,
+        status,
+        written,
+    }
 }
 
 /// The status of an input whose first bad line is this one.
@@ -57,72 +53,61 @@ fn bad_input(line: u32, cause: Cause) -> Status {
     Status::BadInput(TextFault { line, cause })
 }
 
+const PUT_THEN_GET: &str = "hybris 1 f 0 k 1 liars -\nopen\ndo 1 put a 616263\ndo 1 get a\n";
+
+const ITS_REPORT: &str =
+    "op 1 1 put a 616263 2 8 done 1 1\nop 2 1 get a 9 13 value 616263 1 1\norder a 1 2\nheld a 1 1 0\nend 2 1\n";
+
+const EMPTY: &str = "hybris 1 f 0 k 1 liars -\n";
+
+const GET_OF_ABSENT_KEY: &str = "hybris 1 f 0 k 1 liars -\nopen\ndo 1 get a\n";
+
+const BAD_HEX: &str = "hybris 1 f 0 k 1 liars -\ndo 1 put a 6\n";
+
 #[test]
-fn each_bad_line_is_named(rt: HostRuntime) -> Result<(), Fail> {
-    let alloc = rt.alloc();
-    let text = format!(in alloc; "{HEADER}do 1 put a 6\n")?;
-    for (input, status, line) in [
-        (
-            text.as_str(),
-            bad_input(2, Cause::BadHex),
-            "bad input 2 BadHex\n",
-        ),
-        ("", bad_input(1, Cause::NoHeader), "bad input 1 NoHeader\n"),
+fn worked_replays_answer_as_they_should(rt: HostRuntime) -> Result<(), Fail> {
+    let none = "op 1 1 get a 2 4 none 0 0\norder a 1\nend 1 1\n";
+    let mut failing_read = replay_of(PUT_THEN_GET, Status::ReadFault, "read fault\n");
+    failing_read.failing_read = 1;
+    let mut failing_write = replay_of(PUT_THEN_GET, Status::WriteFault, "");
+    failing_write.failing_write = 1;
+    let mut longest = replay_of("", bad_input(1, Cause::NoHeader), "bad input 1 NoHeader\n");
+    longest.line_feeds = MAX_INPUT as usize;
+    let mut too_long = replay_of("", Status::TooLong, "too long\n");
+    too_long.line_feeds = MAX_INPUT as usize + 1;
+    for row in [
+        replay_of(PUT_THEN_GET, Status::Done, ITS_REPORT),
+        replay_of(EMPTY, Status::Done, "end 0 0\n"),
+        replay_of(GET_OF_ABSENT_KEY, Status::Done, none),
+        replay_of(BAD_HEX, bad_input(2, Cause::BadHex), "bad input 2 BadHex\n"),
+        replay_of("", bad_input(1, Cause::NoHeader), "bad input 1 NoHeader\n"),
+        failing_read,
+        failing_write,
+        longest,
+        too_long,
     ] {
-        let input = Blob::copy_of(alloc, input.as_bytes())?;
-        let (got, written) = answer(alloc, &["replay"], input, Vec::new(alloc), Vec::new(alloc))?;
-        assert_eq!(rt; got, status);
-        assert_eq!(rt; written.as_str(), line);
+        let (status, written) = row.answer(rt.alloc())?;
+        assert_eq!(rt; status, row.status);
+        assert_eq!(rt; written.as_str(), row.written);
     }
     Ok(())
 }
 
 #[test]
-fn other_refusals_have_their_status_and_line(rt: HostRuntime) -> Result<(), Fail> {
-    let alloc = rt.alloc();
-    for (words, failing_read, failing_write, status, line) in [
-        (
-            ["replay"].as_slice(),
-            1,
-            0,
-            Status::ReadFault,
-            "read fault\n",
-        ),
-        (&["replay"], 0, 1, Status::WriteFault, ""),
-        (&["fly"], 1, 0, Status::BadWords, "bad words\n"),
-        (&[], 0, 0, Status::BadWords, "bad words\n"),
-        (&["replay", "replay"], 0, 0, Status::BadWords, "bad words\n"),
-        (&["--help"], 0, 1, Status::WriteFault, ""),
+fn other_words_are_refused_and_read_nothing(rt: HostRuntime) -> Result<(), Fail> {
+    for words in [
+        ["fly"].as_slice(),
+        &[],
+        &["replay", "replay"],
+        &["--help"],
+        &["replay "],
     ] {
-        let (got, written) = answer(
-            alloc,
-            words,
-            Blob::copy_of(alloc, b"")?,
-            vec![in alloc; failing_read]?,
-            vec![in alloc; failing_write]?,
-        )?;
-        assert_eq!(rt; got, status, "{words:?}");
-        assert_eq!(rt; written.as_str(), line);
-    }
-    Ok(())
-}
-
-#[test]
-fn the_length_of_an_input_is_limited(rt: HostRuntime) -> Result<(), Fail> {
-    let alloc = rt.alloc();
-    let most = MAX_INPUT as usize;
-    for (size, status, line) in [
-        (
-            most,
-            bad_input(1, Cause::NoHeader),
-            "bad input 1 NoHeader\n",
-        ),
-        (most + 1, Status::TooLong, "too long\n"),
-    ] {
-        let input = Blob::of(vec![in alloc; b'\n'; size]?);
-        let (got, written) = answer(alloc, &["replay"], input, Vec::new(alloc), Vec::new(alloc))?;
-        assert_eq!(rt; got, status);
-        assert_eq!(rt; written.as_str(), line);
+        let mut row = replay_of(PUT_THEN_GET, Status::BadWords, "bad words\n");
+        row.words = words;
+        row.failing_read = 1;
+        let (status, written) = row.answer(rt.alloc())?;
+        assert_eq!(rt; status, row.status, "{words:?}");
+        assert_eq!(rt; written.as_str(), row.written);
     }
     Ok(())
 }
