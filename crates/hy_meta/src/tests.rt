@@ -1,3 +1,5 @@
+ghost use Rattle.std.specs.Prelude.{◌<◌};
+
 use super::*;
 use hy_record::{Key, MetaAsk, MetaSay, Record, Stamp, Stamps};
 use std::alloc::Global;
@@ -29,7 +31,11 @@ fn update(alloc: Global, op: u32, at: &Key, sn: u32, cid: u32) -> Result<MetaAsk
 }
 
 /// What any service answers, each message as its kind and its timestamp: Applied, Kept, Fired, or others.
-fn told<M: Meta>(service: &mut M, alloc: Global, ask: &MetaAsk) -> Result<Vec<(u8, u32, Stamp)>, Fail> {
+fn told<M: Meta>(
+    service: &mut M,
+    alloc: Global,
+    ask: &MetaAsk,
+) -> Result<Vec<(u8, u32, Stamp)>, Fail> {
     let says = service.serve(alloc, ask).ok().ok_or("an answer")?;
     let mut told = Vec::new(alloc);
     for say in &says {
@@ -37,7 +43,8 @@ fn told<M: Meta>(service: &mut M, alloc: Global, ask: &MetaAsk) -> Result<Vec<(u
             MetaSay::Applied { op, stamp, .. } => told.push((b'a', *op, *stamp))?,
             MetaSay::Kept { op, stamp, .. } => told.push((b'k', *op, *stamp))?,
             MetaSay::Fired { op, stamp, .. } => told.push((b'f', *op, *stamp))?,
-            MetaSay::Has { op, .. } | MetaSay::OldList { op, .. } | MetaSay::Forgot { op, .. } => told.push((b'o', *op, Stamp::zero()))?,
+            MetaSay::Has { op, .. } | MetaSay::OldList { op, .. } | MetaSay::Forgot { op, .. } =>
+                told.push((b'o', *op, Stamp::zero()))?,
         }
     }
     Ok(told)
@@ -70,18 +77,35 @@ fn watches_fire_when_they_are_due(rt: HostRuntime) -> Result<(), Fail> {
     };
     // It waits, and a key of its own fires it.
     assert_eq!(rt; told(&mut service, alloc, &watch(1, &a, zero))?.len(), 0);
-    assert!(rt; told(&mut service, alloc, &update(alloc, 2, &b, 1, 1)?)?.as_slice() == [(b'a', 2, one)].as_slice());
-    assert!(rt; told(&mut service, alloc, &update(alloc, 3, &a, 1, 1)?)?.as_slice() == [(b'a', 3, one), (b'f', 1, zero)].as_slice());
+    assert!(rt;
+        told(&mut service, alloc, &update(alloc, 2, &b, 1, 1)?)?.as_slice()
+            == [(b'a', 2, one)].as_slice()
+    );
+    assert!(rt;
+        told(&mut service, alloc, &update(alloc, 3, &a, 1, 1)?)?.as_slice()
+            == [(b'a', 3, one), (b'f', 1, zero)].as_slice()
+    );
     // One that is due fires at once.
-    assert!(rt; told(&mut service, alloc, &watch(4, &a, zero))?.as_slice() == [(b'f', 4, zero)].as_slice());
+    assert!(rt;
+        told(&mut service, alloc, &watch(4, &a, zero))?.as_slice() == [(b'f', 4, zero)].as_slice()
+    );
     // One that is served twice fires twice, once for each.
     assert_eq!(rt; told(&mut service, alloc, &watch(5, &a, one))?.len(), 0);
     assert_eq!(rt; told(&mut service, alloc, &watch(6, &a, one))?.len(), 0);
     assert_eq!(rt; told(&mut service, alloc, &watch(5, &a, one))?.len(), 0);
-    assert!(rt; told(&mut service, alloc, &update(alloc, 7, &a, 1, 1)?)?.as_slice() == [(b'k', 7, one)].as_slice());
+    assert!(rt;
+        told(&mut service, alloc, &update(alloc, 7, &a, 1, 1)?)?.as_slice()
+            == [(b'k', 7, one)].as_slice()
+    );
     assert!(rt;
         told(&mut service, alloc, &update(alloc, 8, &a, 2, 1)?)?.as_slice()
-            == [(b'a', 8, two), (b'f', 5, one), (b'f', 6, one), (b'f', 5, one)].as_slice()
+            == [
+                (b'a', 8, two),
+                (b'f', 5, one),
+                (b'f', 6, one),
+                (b'f', 5, one)
+            ]
+            .as_slice()
     );
     assert!(rt; told(&mut service, alloc, &update(alloc, 9, &a, 3, 1)?)?.len() == 1);
     Ok(())
@@ -94,7 +118,10 @@ fn superseded_timestamps_are_listed_and_forgotten(rt: HostRuntime) -> Result<(),
     let a = key("a")?;
     assert!(rt; service.current(&a).is_none());
     for sn in 1..301u32 {
-        let says = service.serve(alloc, &update(alloc, sn, &a, sn, 1)?).ok().ok_or("an answer")?;
+        let says = service
+            .serve(alloc, &update(alloc, sn, &a, sn, 1)?)
+            .ok()
+            .ok_or("an answer")?;
         assert_eq!(rt; says.len(), 1);
     }
     match service.current(&a) {
@@ -102,8 +129,22 @@ fn superseded_timestamps_are_listed_and_forgotten(rt: HostRuntime) -> Result<(),
         None => assert!(rt; false, "a record"),
     }
     let first = stamp(1, 1)?;
-    assert!(rt; service.is_old(&a, first) && service.is_old(&a, stamp(299, 1)?) && !service.is_old(&a, stamp(300, 1)?));
-    let says = service.serve(alloc, &MetaAsk::Olds { client: 1, op: 1, key: a }).ok().ok_or("the list")?;
+    assert!(rt;
+        service.is_old(&a, first)
+            && service.is_old(&a, stamp(299, 1)?)
+            && !service.is_old(&a, stamp(300, 1)?)
+    );
+    let says = service
+        .serve(
+            alloc,
+            &MetaAsk::Olds {
+                client: 1,
+                op: 1,
+                key: a,
+            },
+        )
+        .ok()
+        .ok_or("the list")?;
     let mut listed = 0usize;
     for say in &says {
         if let MetaSay::OldList { stamps, .. } = say {
@@ -121,11 +162,24 @@ fn superseded_timestamps_are_listed_and_forgotten(rt: HostRuntime) -> Result<(),
         key: a,
         stamps: Stamps::of(vec![in alloc; first]?),
     };
-    assert!(rt; told(&mut service, alloc, &forget)?.as_slice() == [(b'o', 2, Stamp::zero())].as_slice());
+    assert!(rt;
+        told(&mut service, alloc, &forget)?.as_slice() == [(b'o', 2, Stamp::zero())].as_slice()
+    );
     assert!(rt; !service.is_old(&a, first));
-    assert!(rt; told(&mut service, alloc, &update(alloc, 3, &a, 1, 1)?)?.as_slice() == [(b'k', 3, stamp(300, 1)?)].as_slice());
+    assert!(rt;
+        told(&mut service, alloc, &update(alloc, 3, &a, 1, 1)?)?.as_slice()
+            == [(b'k', 3, stamp(300, 1)?)].as_slice()
+    );
     assert!(rt; service.is_old(&a, first));
-    let read = told(&mut service, alloc, &MetaAsk::Read { client: 1, op: 4, key: a })?;
+    let read = told(
+        &mut service,
+        alloc,
+        &MetaAsk::Read {
+            client: 1,
+            op: 4,
+            key: a,
+        },
+    )?;
     assert_eq!(rt; read.len(), 1);
     Ok(())
 }
