@@ -1,3 +1,5 @@
+mod CloudWords
+mod Fronts
 mod Spaced
 mod Lines
 mod Clouds

@@ -1,7 +1,7 @@
 -- Which reports can be read back from their text.
-use Rattle.std.specs.Prelude.{◌≡◌, ℕ, ◌+◌, ◌<◌, ◌≤◌, IsTrue, List, [], ◌∷◌, length, map, filter}
+use Rattle.std.specs.Prelude.{◌≡◌, ℕ, ◌+◌, ◌<◌, ◌≤◌, IsTrue, List, [], ◌∷◌, length, map, Option, Some, None}
 use Rattle.std.specs.Cmp.Lexicographic.{slice_cmp}
-use Rattle.std.specs.List.{AllByRecursion}
+use Rattle.std.specs.List.{AllByRecursion, filter_map}
 use Rattle.std.specs.List.Sorted.{IsStrictlySortedBy}
 use Rattle.std.specs.Ordering.{nat_cmp}
 use Rattle.hy_base.specs.declared.limits.TheConstants.{MAX_TEXT_VALUE}
@@ -19,13 +19,19 @@ use Rattle.hy_order.specs.declared.operation.Operation.{Operation}
 use Rattle.hy_order.specs.declared.order.Order.{Order}
 use Rattle.hy_order.specs.declared.report.Report.{Report}
 use Rattle.hy_order.specs.declared.report.TheConstants.{LAST_STEP}
-use Rattle.hy_order.specs.History.{IsHistory, key_of_action}
+use Rattle.hy_order.specs.History.{IsHistory}
 use Rattle.hy_order.specs.Keys.{sorted_keys}
-use Rattle.hy_order.specs.Linearization.{acts_on_register}
+
+-- the key of a put, a get or a delete
+abbrev pub register_key : Action → Option (List ℕ)
+register_key (asked.Put key value) = Some key
+register_key (asked.Get key) = Some key
+register_key (asked.Delete key) = Some key
+register_key (asked.Collect key) = None
 
 -- the keys that a put, a get or a delete of the history names, in the order of the history
 abbrev pub register_keys : List Operation → List (List ℕ)
-register_keys ops = map (λ op. key_of_action op.action) (filter (λ op. acts_on_register op.action) ops)
+register_keys ops = filter_map (λ (op : Operation). register_key op.action) ops
 
 -- the value has no more bytes than a text may give it
 pub record IsTextValue (value : List ℕ) : Type 0 where

@@ -20,9 +20,13 @@ use Rattle.hy_order.specs.WordReaders.{number_after, due_key, key_above, clouds_
 
 -- ---- the kinds of lines
 
+-- the line has its end
+abbrev pub end_of_line : Bool → Result (Unit {0}) Cause
+end_of_line ended = if ended then Ok tt else Err NoLineEnd
+
 -- what stands in a line, where the line has its end
 abbrev pub closed : {A : Type 0} → Bool → Result A Cause → Result A Cause
-closed ended read = read >>= λ x. if ended then Ok x else Err NoLineEnd
+closed ended read = read >>= λ x. end_of_line ended >>= λ _. Ok x
 
 -- the words of an operation, behind the keyword; the last number and the last step stand before
 unfoldable pub operation_of : ℕ → ℕ → List (List ℕ) → Result Operation Cause
@@ -58,6 +62,22 @@ counts_of ops orders words =
     number_of orders orders (first_word (later_words words)) >>= λ _.
     end_of (later_words (later_words words))
 
+-- the line of an operation
+abbrev pub operation_in : ℕ → ℕ → OpenLine → Result Operation Cause
+operation_in last step line = closed line.ended (operation_of last step line.words)
+
+-- the line of an order
+abbrev pub order_in : List ℕ → OpenLine → Result Order Cause
+order_in key line = closed line.ended (keyword (codes "order") line.keyword >>= λ _. order_of key line.words)
+
+-- the line of retrievable copies
+abbrev pub held_in : Option (List ℕ) → OpenLine → Result Held Cause
+held_in last line = closed line.ended (held_of last line.words)
+
+-- the last line
+abbrev pub end_in : ℕ → ℕ → OpenLine → Result (Unit {0}) Cause
+end_in ops orders line = closed line.ended (keyword (codes "end") line.keyword >>= λ _. counts_of ops orders line.words)
+
 -- ---- lines of one kind
 
 -- a kind of line: whether one is due where the next line has this keyword, what it tells, and what then stands before the next
@@ -90,7 +110,7 @@ pub record Before : Type 0 where
 abbrev pub operation_lines : Kind Before Operation
 operation_lines = record {
   is_due = λ before word. bytes_eq word (codes "op");
-  read = λ before line. closed line.ended (operation_of before.number before.step line.words);
+  read = λ before line. operation_in before.number before.step line;
   next = λ before op. record { number = op.number; step = op.invoked };
 }
 
@@ -103,7 +123,7 @@ has_key (key ∷ keys) = true
 abbrev pub order_lines : Kind (List (List ℕ)) Order
 order_lines = record {
   is_due = λ keys word. has_key keys;
-  read = λ keys line. closed line.ended (keyword (codes "order") line.keyword >>= λ _. order_of (first_word keys) line.words);
+  read = λ keys line. order_in (first_word keys) line;
   next = λ keys order. later_words keys;
 }
 
@@ -111,7 +131,7 @@ order_lines = record {
 abbrev pub held_lines : Kind (Option (List ℕ)) Held
 held_lines = record {
   is_due = λ last word. bytes_eq word (codes "held");
-  read = λ last line. closed line.ended (held_of last line.words);
+  read = λ last line. held_in last line;
   next = λ last held. Some held.key;
 }
 
@@ -126,7 +146,7 @@ nothing_in number (line ∷ lines) = Err (record { line = number; cause = Extra 
 abbrev pub last_line : ℕ → ℕ → ℕ → List OpenLine → Result (Unit {0}) TextFault
 last_line ops orders number [] = Err (record { line = number; cause = NoEnd })
 last_line ops orders number (line ∷ lines) =
-    at_line number (closed line.ended (keyword (codes "end") line.keyword >>= λ _. counts_of ops orders line.words)) >>= λ _.
+    at_line number (end_in ops orders line) >>= λ _.
     nothing_in (next_number number) lines
 
 -- the lines of a report

@@ -57,14 +57,14 @@ abbrev pub key_above : Option (List ℕ) → List ℕ → Result (List ℕ) Caus
 key_above last word = key_word word >>= λ key. if is_above last key then Ok key else Err BadKey
 
 -- the set of the clouds below a number whose digit stands in the word
-unfoldable pub clouds_below : ℕ → List ℕ → ℕ
-clouds_below zero word = 0
-clouds_below (suc cloud) word = clouds_below cloud word + (if list_any (λ b. b == 48 + cloud) word then 2 ^ cloud else 0)
+unfoldable pub clouds_named_below : ℕ → List ℕ → ℕ
+clouds_named_below zero word = 0
+clouds_named_below (suc cloud) word = clouds_named_below cloud word + (if list_any (λ b. b == 48 + cloud) word then 2 ^ cloud else 0)
 
 -- the slot of a set of clouds below 10: their list in increasing order, with commas between, or a dash
 unfoldable pub clouds_word_of : List ℕ → Result ℕ Cause
 clouds_word_of word =
-    let clouds = clouds_below 10 word in
+    let clouds = clouds_named_below 10 word in
     if bytes_eq word (cloud_word (clouds_of clouds)) then Ok clouds else Err BadNumber
 
 -- the phase that the word names
@@ -157,17 +157,18 @@ pending_from action words =
     number_of 0 4294967295 (first_word (later_words (later_words words))) >>= λ need.
     Ok (Pending at have need, later_words (later_words (later_words words)))
 
--- the end of an operation that was invoked at this step and has a reply
-unfoldable pub replied_from : Action → ℕ → List (List ℕ) → Result (End × List (List ℕ)) Cause
-replied_from action invoked words =
-    number_of (invoked + 1) LAST_STEP (first_word words) >>= λ at.
-    reply_from action (later_words words) >>= λ reply.
+-- the end of an operation that was invoked at this step and has a reply: the word that tells when, and the words behind it
+unfoldable pub replied_from : Action → ℕ → List ℕ → List (List ℕ) → Result (End × List (List ℕ)) Cause
+replied_from action invoked word words =
+    number_of (invoked + 1) LAST_STEP word >>= λ at.
+    reply_from action words >>= λ reply.
     Ok (Replied at reply.0, reply.1)
 
 -- the end of an operation that was invoked at this step
 unfoldable pub end_from : Action → ℕ → List (List ℕ) → Result (End × List (List ℕ)) Cause
 end_from action invoked words =
-    if bytes_eq (first_word words) (codes "-") then pending_from action (later_words words) else replied_from action invoked words
+    if bytes_eq (first_word words) (codes "-") then pending_from action (later_words words)
+    else replied_from action invoked (first_word words) (later_words words)
 
 -- the numbers that an order lists: all words that are left
 unfoldable pub numbers_of : List (List ℕ) → Result (List ℕ) Cause
