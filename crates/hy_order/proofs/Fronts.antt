@@ -1,6 +1,6 @@
 -- What was read before, in front of what is still read.
 use Rattle.std.proofs.Common.{◌≡◌, ℕ, Bool, true, false, cond, List, [], ◌∷◌, ◌++◌, Result, Ok, Err, refl, sym, ap, ◌∙◌, append_assoc, append-nil}
-use Rattle.std.specs.Prelude.{is_err}
+use Rattle.std.specs.Prelude.{codes, is_err, Option}
 use Rattle.hy_base.specs.declared.fault.Cause.{Cause}
 use Rattle.hy_base.specs.declared.fault.TextError.{TextError}
 use Rattle.hy_base.specs.declared.fault.TextError.TheVariants as errors
@@ -9,8 +9,8 @@ use Rattle.hy_text.specs.Gives.{TextFails, at_line, next_number, Fails}
 use Rattle.hy_text.specs.Line.{first_word, later_words}
 use Rattle.hy_text.specs.Slot.{◌>>=◌, number_of, end_of}
 use Rattle.hy_text.specs.declared.error.LineError.{LineError}
-use Rattle.hy_order.specs.OpenLine.{OpenLine, Rest}
-use Rattle.hy_order.specs.ReportReading.{Kind, items_from}
+use Rattle.hy_order.specs.OpenLine.{OpenLine, Rest, is_at}
+use Rattle.hy_order.specs.ReportReading.{Kind, Before, items_from, operation_lines, order_lines, held_lines}
 use Rattle.hy_order.specs.WordReaders.{numbers_of}
 
 -- ---- the numbers of an order
@@ -98,3 +98,17 @@ pub items_end : {S A : Type 0} (kind : Kind S A) (front : List A) (before : S) (
 items_end {A = A} kind front before number lines total other so_far =
     sym so_far ∙ ap (with_items front) (items_from-other kind before number lines other)
     ∙ ap (λ (all : List A). Ok (all, record { number = number; lines = lines })) (append-nil front)
+
+-- ---- where no line of the kind is due
+
+pub no_operation_due : (before : Before) (lines : List OpenLine) → is_at (codes "op") lines ≡ false → is_next_due operation_lines before lines ≡ false
+no_operation_due before [] other = refl
+no_operation_due before (line ∷ lines) other = other
+
+pub no_held_due : (last : Option (List ℕ)) (lines : List OpenLine) → is_at (codes "held") lines ≡ false → is_next_due held_lines last lines ≡ false
+no_held_due last [] other = refl
+no_held_due last (line ∷ lines) other = other
+
+pub no_key_due : (lines : List OpenLine) → is_next_due order_lines [] lines ≡ false
+no_key_due [] = refl
+no_key_due (line ∷ lines) = refl

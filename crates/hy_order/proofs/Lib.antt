@@ -1,3 +1,5 @@
+mod DueKeys
+mod WordRows
 mod CloudWords
 mod Fronts
 mod Spaced
