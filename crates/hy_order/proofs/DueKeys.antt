@@ -25,9 +25,3 @@ module _ (ops : List Operation) (place : ℕ) (op : Operation) (within : place <
   due-there key keys new names so_far is_new =
       let more : register_keys (op ∷ drop (place + 1) ops) ≡ key ∷ register_keys (drop (place + 1) ops) = rw names refl in
       is_new ∙ insert_key-set keys key ∙ ap (insert_key key) so_far ∙ ap sorted_keys (sym more ∙ ap register_keys (sym from_here))
-
-  pub due-absent : (keys : List (List ℕ)) → register_key op.action ≡ None → keys ≡ sorted_keys (register_keys (drop (place + 1) ops))
-      → keys ≡ sorted_keys (register_keys (drop place ops))
-  due-absent keys names so_far =
-      let more : register_keys (op ∷ drop (place + 1) ops) ≡ register_keys (drop (place + 1) ops) = rw names refl in
-      so_far ∙ ap sorted_keys (sym more ∙ ap register_keys (sym from_here))

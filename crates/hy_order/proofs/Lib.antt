@@ -1,3 +1,6 @@
+mod LineGroups
+mod EndRows
+mod OperationRows
 mod DueKeys
 mod WordRows
 mod CloudWords

@@ -61,7 +61,7 @@ number_word low high words number fits e =
 pub key_first : (words : List (List ℕ)) (key : List ℕ) → key_word (first_word words) ≡ Ok key → (words ≡ key ∷ later_words words) × IsTrue (is_key key)
 key_first words key e = let k = key_takes (first_word words) key e in (words_from_first words key k.0 (length-key key k.1), k.1)
 
-value_first : (words : List (List ℕ)) (value : List ℕ) → value_of MAX_TEXT_VALUE (first_word words) ≡ Ok value → (words ≡ value_word value ∷ later_words words) × IsTextValue value
+pub value_first : (words : List (List ℕ)) (value : List ℕ) → value_of MAX_TEXT_VALUE (first_word words) ≡ Ok value → (words ≡ value_word value ∷ later_words words) × IsTextValue value
 value_first words value e =
     let v = value_takes MAX_TEXT_VALUE (first_word words) value e in
     (words_from_first words (value_word value) v.printed (length-value_word value), record { short = v.short; bytes = v.bytes })

@@ -4,6 +4,7 @@ use Rattle.std.proofs.lemmas.Result.{err_from_is_err_and}
 use Rattle.hy_order.specs.OpenLine.{opened_seen}
 use Rattle.hy_order.specs.ReportReading.{Before, items_from, operation_lines}
 use Rattle.hy_order.proofs.Fronts.{with_items, items_go_on, items_fail, items_end, no_operation_due}
+use Rattle.hy_order.proofs.OperationRows.{is_history}
 use Rattle.hy_order.proofs.reading.read_history.Goals as goal
 
 pub returns-in_err-op : goal.returns-in_err-op
@@ -27,7 +28,11 @@ loop-line-preserved c =
     }
 
 pub of-requires : goal.of-requires
-of-requires c = ?
+of-requires c =
+    let before : Before = record { number = c.loop-line.last; step = c.loop-line.step } in
+    let other = no_operation_due before c.loop-line.cursor.lines c.in_default.ensures.0 in
+    is_history c.args.cursor.now.number c.args.cursor.now.lines (c.loop-line.ops.items, record { number = c.loop-line.cursor.number; lines = c.loop-line.cursor.lines })
+    (items_end operation_lines c.loop-line.ops.items before c.loop-line.cursor.number c.loop-line.cursor.lines _ other c.loop-line.invariant.so_far)
 
 pub returns : goal.returns
 returns c =
