@@ -34,3 +34,12 @@ named_absent clouds cloud new word so_far absent is =
     let bit : cond (list_any (λ b. eqb b (48 + cloud)) word) (2 ^ cloud) 0 ≡ 0 = rw absent refl in
     let sum = twice cloud in
     record { value = omega (arith, so_far.value); small = omega (arith, so_far.small) }
+
+pub clouds_named_below-small : (cloud : ℕ) (word : List ℕ) → clouds_named_below cloud word < 2 ^ cloud
+unfolding clouds_named_below
+clouds_named_below-small zero word = omega arith
+clouds_named_below-small (suc cloud) word = by (list_any (λ b. eqb b (48 + cloud)) word) (clouds_named_below-small cloud word)
+  where
+    by : (t : Bool) → clouds_named_below cloud word < 2 ^ cloud → clouds_named_below cloud word + cond t (2 ^ cloud) 0 < 2 ^ suc cloud
+    by true small = rw pow-suc (omega arith)
+    by false small = rw pow-suc (omega arith)

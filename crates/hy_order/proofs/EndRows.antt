@@ -22,9 +22,13 @@ use Rattle.hy_order.specs.declared.operation.End.TheVariants.{Replied, Pending}
 use Rattle.hy_order.specs.declared.report.TheConstants.{LAST_STEP}
 use Rattle.hy_order.specs.History.{is_reply_of, is_phase_of, is_end_of}
 use Rattle.hy_order.specs.Report.{stamp_words, reply_words, phase_word, end_words}
-use Rattle.hy_order.specs.ReportRanges.{IsTextStamp, IsTextReply, IsTextEnd}
+use Rattle.hy_order.specs.ReportRanges.{IsTextStamp, IsTextValue, IsTextReply, IsTextEnd}
 use Rattle.hy_order.specs.WordReaders.{stamp_from, write_reply_from, value_from, get_reply_from, collect_reply_from, reply_from, phase_of, phase_word_of, pending_from, replied_from, end_from}
-use Rattle.hy_order.proofs.WordRows.{Spells, chosen, behind, number_word, value_first, stamp_takes}
+use Rattle.hy_order.proofs.WordRows.{Spells, chosen, behind, number_word, value_first, stamp_takes, stamp_again}
+use Rattle.hy_text.proofs.Numbers.{number_again}
+use Rattle.hy_text.proofs.Values.{value_again}
+use Rattle.std.specs.Str.Parse.{AllDigits}
+use Rattle.std.proofs.lemmas.Fmt.{decimal_is_IsNumeral}
 
 -- a reply in range that the action can have
 pub record IsReplyOf (action : Action) (reply : Reply) : Type 0 where
@@ -195,3 +199,84 @@ end_takes action invoked words read e =
       | inl pending ↦ subst P (sym (behind words (codes "-") pending.0 (omega arith))) (pending_takes action invoked (later_words words) read pending.1)
       | inr replied ↦ replied_takes action invoked words read replied
     ]
+
+-- ---- an end is read again
+
+value_again_of : (value : List ℕ) → IsTextValue value → value_of MAX_TEXT_VALUE (value_word value) ≡ Ok value
+value_again_of value fits = value_again MAX_TEXT_VALUE value fits.bytes fits.short
+
+-- the text of a count is read again
+count_again : (count : ℕ) → count ≤ 4294967295 → number_of 0 4294967295 (decimal count) ≡ Ok count
+count_again count high = number_again 0 4294967295 count (omega arith) (omega arith) high
+
+done_again : (stamp : Timestamp) (left : List (List ℕ)) → IsTextStamp stamp → write_reply_from (reply_words (told.Done stamp) ++ left) ≡ Ok (told.Done stamp, left)
+unfolding write_reply_from
+done_again stamp left fits = rw (stamp_again stamp left fits) refl
+
+exhausted_again : (stamp : Timestamp) (left : List (List ℕ)) → IsTextStamp stamp → write_reply_from (reply_words (told.Exhausted stamp) ++ left) ≡ Ok (told.Exhausted stamp, left)
+unfolding write_reply_from
+exhausted_again stamp left fits = rw (stamp_again stamp left fits) refl
+
+reply_again : (action : Action) (reply : Reply) (left : List (List ℕ)) → IsTextReply reply → is_reply_of action reply ≡ true → reply_from action (reply_words reply ++ left) ≡ Ok (reply, left)
+unfolding get_reply_from value_from collect_reply_from
+reply_again (asked.Put key value) (told.Done stamp) left fits can = done_again stamp left fits
+reply_again (asked.Put key value) (told.Exhausted stamp) left fits can = exhausted_again stamp left fits
+reply_again (asked.Put key value) (told.Value bytes stamp) left fits can = absurd cc
+reply_again (asked.Put key value) (told.Absent stamp) left fits can = absurd cc
+reply_again (asked.Put key value) (told.Collected count) left fits can = absurd cc
+reply_again (asked.Delete key) (told.Done stamp) left fits can = done_again stamp left fits
+reply_again (asked.Delete key) (told.Exhausted stamp) left fits can = exhausted_again stamp left fits
+reply_again (asked.Delete key) (told.Value bytes stamp) left fits can = absurd cc
+reply_again (asked.Delete key) (told.Absent stamp) left fits can = absurd cc
+reply_again (asked.Delete key) (told.Collected count) left fits can = absurd cc
+reply_again (asked.Get key) (told.Done stamp) left fits can = absurd cc
+reply_again (asked.Get key) (told.Exhausted stamp) left fits can = absurd cc
+reply_again (asked.Get key) (told.Value bytes stamp) left fits can = rw (value_again_of bytes fits.0, stamp_again stamp left fits.1) refl
+reply_again (asked.Get key) (told.Absent stamp) left fits can = rw (stamp_again stamp left fits) refl
+reply_again (asked.Get key) (told.Collected count) left fits can = absurd cc
+reply_again (asked.Collect key) (told.Done stamp) left fits can = absurd cc
+reply_again (asked.Collect key) (told.Exhausted stamp) left fits can = absurd cc
+reply_again (asked.Collect key) (told.Value bytes stamp) left fits can = absurd cc
+reply_again (asked.Collect key) (told.Absent stamp) left fits can = absurd cc
+reply_again (asked.Collect key) (told.Collected count) left fits can = rw (count_again count fits) refl
+
+phase_again : (at : Phase) → phase_of (phase_word at) ≡ Ok at
+unfolding phase_of
+phase_again phase.Read = refl
+phase_again phase.Store = refl
+phase_again phase.Update = refl
+phase_again phase.Fetch = refl
+phase_again phase.Watch = refl
+phase_again phase.Reread = refl
+phase_again phase.Olds = refl
+phase_again phase.Drop = refl
+phase_again phase.Forget = refl
+
+phase_word_again : (action : Action) (at : Phase) → is_phase_of action at ≡ true → phase_word_of action (phase_word at) ≡ Ok at
+unfolding phase_word_of
+phase_word_again action at can = rw (phase_again at, can) refl
+
+no_dash : (number : ℕ) → number < 2 ^ 64 → bytes_eq (decimal number) (codes "-") ≡ false
+no_dash number small = by (bytes_eq (decimal number) (codes "-")) refl
+  where
+    by : (t : Bool) → bytes_eq (decimal number) (codes "-") ≡ t → bytes_eq (decimal number) (codes "-") ≡ false
+    by false e = e
+    by true e =
+        let dash : decimal number ≡ codes "-" = (bytes_eq-Decides (decimal number) (codes "-")).0 e in
+        let digits : AllDigits 10 (45 ∷ []) = subst (AllDigits 10) dash (decimal_is_IsNumeral number small).0.1 in
+        absurd (omega (arith, digits.0))
+
+replied_again : (action : Action) (invoked at : ℕ) (words : List (List ℕ)) → invoked < at → at ≤ LAST_STEP
+    → replied_from action invoked (decimal at) words ≡ (reply_from action words >>= λ reply. Ok (Replied at reply.0, reply.1))
+unfolding replied_from
+replied_again action invoked at words later high =
+    let low : invoked + 1 ≤ at = omega arith in
+    rw (number_again (invoked + 1) LAST_STEP at (omega arith) low high) refl
+
+pub end_again : (action : Action) (invoked : ℕ) (end : End) (left : List (List ℕ)) → IsTextEnd invoked end → is_end_of action end ≡ true → end_from action invoked (end_words end ++ left) ≡ Ok (end, left)
+unfolding end_from pending_from
+end_again action invoked (Replied at reply) left fits can =
+    let small : at < 2 ^ 64 = omega (arith, fits.1) in
+    rw (no_dash at small, replied_again action invoked at (reply_words reply ++ left) fits.0 fits.1, reply_again action reply left fits.2 can) refl
+end_again action invoked (Pending at have need) left fits can =
+    rw (phase_word_again action at can, count_again have fits.0, count_again need fits.1) refl

@@ -60,20 +60,25 @@ chosen_due : {A : Type 0} (b : Bool) (here other : Result A TextFault) (x : A) �
 chosen_due true here other x e = inl (refl, e)
 chosen_due false here other x e = inr (refl, e)
 
-pub items_take : {S A : Type 0} (kind : Kind S A) (row_of : A → List (List ℕ)) (Fits : S → A → Type 0)
-    → ((before : S) (line : OpenLine) (item : A) → kind.is_due before line.keyword ≡ true → kind.read before line ≡ Ok item → IsLineOf row_of Fits before line item)
-    → (before : S) (number : ℕ) (lines : List OpenLine) (read : List A × Rest) → items_from kind before number lines ≡ Ok read → AreLinesOf kind row_of Fits before lines read
+-- what the reader of a line of the kind says of the line, where what stands before it is as it has to be
+abbrev pub Takes : {S A : Type 0} → Kind S A → (A → List (List ℕ)) → (S → A → Type 0) → (S → Type 0) → Type 0
+Takes {S = S} {A = A} kind row_of Fits Holds =
+    (before : S) (line : OpenLine) (item : A) → Holds before → kind.is_due before line.keyword ≡ true → kind.read before line ≡ Ok item → IsLineOf row_of Fits before line item
+
+pub items_take : {S A : Type 0} (kind : Kind S A) (row_of : A → List (List ℕ)) (Fits : S → A → Type 0) (Holds : S → Type 0)
+    → Takes kind row_of Fits Holds → ((before : S) (item : A) → Holds before → Holds (kind.next before item))
+    → (before : S) (number : ℕ) (lines : List OpenLine) (read : List A × Rest) → Holds before → items_from kind before number lines ≡ Ok read → AreLinesOf kind row_of Fits before lines read
 unfolding items_from
-items_take {A = A} kind row_of Fits each before number [] read e =
+items_take {A = A} kind row_of Fits Holds each keeps before number [] read holds e =
     let none : List A × Rest = ([], record { number = number; lines = [] }) in
     subst (AreLinesOf kind row_of Fits before []) (ok_is none read e) (record { rows = refl; ended = λ e. e; fits = tt; other = refl })
-items_take {A = A} kind row_of Fits each before number (line ∷ lines) read e =
+items_take {A = A} kind row_of Fits Holds each keeps before number (line ∷ lines) read holds e =
     elim (chosen_due (kind.is_due before line.keyword) _ (Ok ([], record { number = number; lines = line ∷ lines })) read e) [
       | inl here ↦
           let item = bind_ok (at_line number (kind.read before line)) _ read here.1 in
           let more = bind_ok (items_from kind (kind.next before item.0) (next_number number) lines) (λ more. Ok (item.0 ∷ more.0, more.1)) read item.2 in
-          let one = each before line item.0 here.0 (at_line_ok number (kind.read before line) item.0 item.1) in
-          let rest = items_take kind row_of Fits each (kind.next before item.0) (next_number number) lines more.0 more.1 in
+          let one = each before line item.0 holds here.0 (at_line_ok number (kind.read before line) item.0 item.1) in
+          let rest = items_take kind row_of Fits Holds each keeps (kind.next before item.0) (next_number number) lines more.0 (keeps before item.0 holds) more.1 in
           subst (AreLinesOf kind row_of Fits before (line ∷ lines)) (ok_is (item.0 ∷ more.0.0, more.0.1) read more.2)
           (record {
             rows = ap (λ (row : List (List ℕ)). row ∷ rows_in lines) one.row ∙ ap (λ (rows : List (List (List ℕ))). row_of item.0 ∷ rows) rest.rows;

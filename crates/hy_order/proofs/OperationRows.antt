@@ -17,9 +17,10 @@ use Rattle.hy_order.specs.Report.{action_words, end_words, operation_row}
 use Rattle.hy_order.specs.ReportRanges.{IsTextOperation, AreTextOperations}
 use Rattle.hy_order.specs.ReportReading.{Before, operation_of, operation_in, operation_lines, items_from}
 use Rattle.hy_order.specs.WordReaders.{number_after, action_from, end_from}
-use Rattle.hy_order.proofs.WordRows.{Spells, number_word, action_takes}
-use Rattle.hy_order.proofs.EndRows.{IsEndOf, end_takes}
-use Rattle.hy_order.proofs.LineGroups.{closed_ok, IsLineOf, AreLinesOf, FitAlong, items_take}
+use Rattle.hy_text.proofs.Numbers.{number_again}
+use Rattle.hy_order.proofs.WordRows.{Spells, number_word, action_takes, action_again}
+use Rattle.hy_order.proofs.EndRows.{IsEndOf, end_takes, end_again}
+use Rattle.hy_order.proofs.LineGroups.{closed_ok, Takes, IsLineOf, AreLinesOf, FitAlong, line_of_row, items_take}
 
 -- the words behind the keyword are those of the operation, which is in range and has the next number
 pub record SpellsOperation (last step : ℕ) (words : List (List ℕ)) (op : Operation) : Type 0 where
@@ -71,8 +72,12 @@ pub record FitsBehind (before : Before) (op : Operation) : Type 0 where
   pub number : op.number ≡ before.number + 1
   pub can : IsTrue (is_end_of op.action op.end)
 
-operation_line_takes : (before : Before) (line : OpenLine) (op : Operation) → bytes_eq line.keyword (codes "op") ≡ true → operation_in before.number before.step line ≡ Ok op → IsLineOf operation_row FitsBehind before line op
-operation_line_takes before line op due e =
+-- nothing is asked of what stands before an operation
+abbrev pub AnyBefore : Before → Type 0
+AnyBefore before = Unit {0}
+
+operation_line_takes : Takes operation_lines operation_row FitsBehind AnyBefore
+operation_line_takes before line op holds due e =
     let parts = closed_ok line.ended (operation_of before.number before.step line.words) op e in
     let spells = operation_takes before.number before.step line.words op parts.1 in
     let word : line.keyword ≡ codes "op" = (bytes_eq-Decides line.keyword (codes "op")).0 due in
@@ -84,7 +89,7 @@ operation_line_takes before line op due e =
 
 pub operations_take : (number : ℕ) (lines : List OpenLine) (read : List Operation × Rest) → items_from operation_lines (record { number = 0; step = 0 }) number lines ≡ Ok read
     → AreLinesOf operation_lines operation_row FitsBehind (record { number = 0; step = 0 }) lines read
-operations_take number lines read e = items_take operation_lines operation_row FitsBehind operation_line_takes (record { number = 0; step = 0 }) number lines read e
+operations_take number lines read e = items_take operation_lines operation_row FitsBehind AnyBefore operation_line_takes (λ before op holds. tt) (record { number = 0; step = 0 }) number lines read tt e
 
 -- what each operation fits makes a history of them
 pub record AreOperations (before : Before) (ops : List Operation) : Type 0 where
@@ -106,3 +111,36 @@ pub is_history : (number : ℕ) (lines : List OpenLine) (read : List Operation �
 is_history number lines read e =
     let all = operations_from_fits (record { number = 0; step = 0 }) read.0 (operations_take number lines read e).fits in
     record { numbered = all.numbered; ends = all.ends }
+
+-- ---- an operation is read again
+
+number_after_again : (last number : ℕ) → number ≡ last + 1 → number ≤ 4294967295 → number_after last (decimal number) ≡ Ok number
+number_after_again last number next high =
+    let low : last + 1 ≤ number = omega arith in
+    let top : number ≤ min (last + 1) 4294967295 = omega arith in
+    number_again (last + 1) (min (last + 1) 4294967295) number (omega arith) low top
+
+pub operation_again : (before : Before) (op : Operation) → FitsBehind before op
+    → (bytes_eq (codes "op") (codes "op") ≡ true) × (operation_in before.number before.step (line_of_row (operation_row op)) ≡ Ok op)
+unfolding operation_of
+operation_again before op fits =
+    let range = fits.range in
+    let client_low : 1 ≤ op.client = range.client_low in
+    let client_high : op.client ≤ 4294967295 = range.client_high in
+    let invoked_low : before.step + 1 ≤ op.invoked = omega (arith, range.invoked_low) in
+    let invoked_high : op.invoked ≤ LAST_STEP = range.invoked_high in
+    let number = number_after_again before.number op.number fits.number range.number in
+    let client = number_again 1 4294967295 op.client (omega arith) client_low client_high in
+    let action = action_again op.action (decimal op.invoked ∷ end_words op.end) range.action in
+    let invoked = number_again (before.step + 1) LAST_STEP op.invoked (omega arith) invoked_low invoked_high in
+    let end : end_from op.action op.invoked (end_words op.end) ≡ Ok (op.end, []) =
+    ap (end_from op.action op.invoked) (sym (append-nil (end_words op.end))) ∙ end_again op.action op.invoked op.end [] range.end fits.can in
+    (refl, rw (number, client, action, invoked, end) refl)
+
+-- operations of a history in range fit what stands before them
+pub operations_fit : (before : Before) (ops : List Operation) → IsNumberedFrom (before.number + 1) ops → AllByRecursion (λ op. IsTrue (is_end_of op.action op.end)) ops → AreTextOperations before.step ops
+    → FitAlong operation_lines FitsBehind before ops
+operations_fit before [] numbered ends range = tt
+operations_fit before (op ∷ ops) numbered ends range =
+    (record { range = range.0; number = numbered.0; can = ends.0 },
+    operations_fit (record { number = op.number; step = op.invoked }) ops (subst (λ (n : ℕ). IsNumberedFrom (n + 1) ops) (sym numbered.0) numbered.1) ends.1 range.1)

@@ -128,3 +128,19 @@ action_takes words read e =
         ]
       ]
     ]
+
+-- ---- what is written is read again
+
+pub stamp_again : (stamp : Timestamp) (left : List (List ℕ)) → IsTextStamp stamp → stamp_from (stamp_words stamp ++ left) ≡ Ok (stamp, left)
+unfolding stamp_from
+stamp_again stamp left fits =
+    let number : stamp.sn ≤ 4294967294 = fits.number in
+    let client : stamp.cid ≤ 4294967295 = fits.client in
+    rw (number_again 0 4294967294 stamp.sn (omega arith) (omega arith) number, number_again 0 4294967295 stamp.cid (omega arith) (omega arith) client) refl
+
+pub action_again : (action : Action) (left : List (List ℕ)) → IsTextAction action → action_from (action_words action ++ left) ≡ Ok (action, left)
+unfolding action_from put_from key_from
+action_again (asked.Put key value) left fits = rw (key_again key fits.0, value_again MAX_TEXT_VALUE value fits.1.bytes fits.1.short) refl
+action_again (asked.Get key) left fits = rw (key_again key fits) refl
+action_again (asked.Delete key) left fits = rw (key_again key fits) refl
+action_again (asked.Collect key) left fits = rw (key_again key fits) refl

@@ -42,10 +42,30 @@ use std::alloc::Global;
 use std::collections::BTreeSet;
 
 /// The report that the text is.
-#[tactic(auto, unfolding(crate::specs::ReportReading::report_of, crate::specs::ReportReading::report_at))]
+///
+/// A fault names the first line that does not fit, counted from 1, and the cause that the first word
+/// from the left has which does not fit. A line of another kind in the place of one that is due is
+/// `BadWord`, another key than the one due is `BadKey`, a line behind the last is `Extra`, and where
+/// the text ends before its last line, `NoEnd` names the line behind it.
 pub fn read_report(alloc: Global, text: &[u8]) -> Result<Report, TextError>
     // Which report, or which fault: the first of the text.
     ensures exact { GivesText result (report_of text.now) }
+    // What is read is the text of a report in range.
+    ensures found { IfOk result (λ report. IsReport report × (text.now ≡ report_text report)) }
+    // The text of a report in range is read, unless memory runs out.
+    ensures only { (report : Report) → IsReport report → text.now ≡ report_text report →
+        GivesText result (Ok report) }
+    // The text of a report in range has no fault.
+    ensures refused { (fault : TextFault) → result ≡ Err (errors.Fault fault) →
+        ((report : Report) → IsReport report → text.now ≡ report_text report → ⊥) }
+{
+    read_text(alloc, text)
+}
+
+/// The report of the text, or its first fault.
+#[tactic(auto, unfolding(crate::specs::ReportReading::report_of, crate::specs::ReportReading::report_at))]
+fn read_text(alloc: Global, text: &[u8]) -> Result<Report, TextError>
+    ensures { GivesText result (report_of text.now) }
 {
     let mut cursor = Cursor::of(text);
     let history = read_history(alloc, &mut cursor)?;
