@@ -130,15 +130,39 @@ named word due at found other e is =
 pub phase_takes : (word : List ℕ) (found : Phase) → phase_of word ≡ Ok found → word ≡ phase_word found
 unfolding phase_of
 phase_takes word found e =
-    elim (named word (codes "read") phase.Read found _ e refl) [ | inl is ↦ is | inr e ↦
-    elim (named word (codes "store") phase.Store found _ e refl) [ | inl is ↦ is | inr e ↦
-    elim (named word (codes "update") phase.Update found _ e refl) [ | inl is ↦ is | inr e ↦
-    elim (named word (codes "fetch") phase.Fetch found _ e refl) [ | inl is ↦ is | inr e ↦
-    elim (named word (codes "watch") phase.Watch found _ e refl) [ | inl is ↦ is | inr e ↦
-    elim (named word (codes "reread") phase.Reread found _ e refl) [ | inl is ↦ is | inr e ↦
-    elim (named word (codes "olds") phase.Olds found _ e refl) [ | inl is ↦ is | inr e ↦
-    elim (named word (codes "drop") phase.Drop found _ e refl) [ | inl is ↦ is | inr e ↦
-    elim (named word (codes "forget") phase.Forget found (Err BadWord) e refl) [ | inl is ↦ is | inr e ↦ absurd cc ] ] ] ] ] ] ] ] ]
+    elim (named word (codes "read") phase.Read found _ e refl) [
+      | inl is ↦ is
+      | inr e ↦
+          elim (named word (codes "store") phase.Store found _ e refl) [
+            | inl is ↦ is
+            | inr e ↦
+                elim (named word (codes "update") phase.Update found _ e refl) [
+                  | inl is ↦ is
+                  | inr e ↦
+                      elim (named word (codes "fetch") phase.Fetch found _ e refl) [
+                        | inl is ↦ is
+                        | inr e ↦
+                            elim (named word (codes "watch") phase.Watch found _ e refl) [
+                              | inl is ↦ is
+                              | inr e ↦
+                                  elim (named word (codes "reread") phase.Reread found _ e refl) [
+                                    | inl is ↦ is
+                                    | inr e ↦
+                                        elim (named word (codes "olds") phase.Olds found _ e refl) [
+                                          | inl is ↦ is
+                                          | inr e ↦
+                                              elim (named word (codes "drop") phase.Drop found _ e refl) [
+                                                | inl is ↦ is
+                                                | inr e ↦
+                                                    elim (named word (codes "forget") phase.Forget found (Err BadWord) e refl) [ inl is ↦ is | inr e ↦ absurd cc ]
+                                              ]
+                                        ]
+                                  ]
+                            ]
+                      ]
+                ]
+          ]
+    ]
 
 due_ok : (t : Bool) (at found : Phase) → cond t (Ok at) (Err BadWord) ≡ Ok found → (t ≡ true) × (at ≡ found)
 due_ok true at found e = (refl, ok_is at found e)

@@ -141,6 +141,7 @@ operation_again before op fits =
 pub operations_fit : (before : Before) (ops : List Operation) → IsNumberedFrom (before.number + 1) ops → AllByRecursion (λ op. IsTrue (is_end_of op.action op.end)) ops → AreTextOperations before.step ops
     → FitAlong operation_lines FitsBehind before ops
 operations_fit before [] numbered ends range = tt
-operations_fit before (op ∷ ops) numbered ends range =
-    (record { range = range.0; number = numbered.0; can = ends.0 },
-    operations_fit (record { number = op.number; step = op.invoked }) ops (subst (λ (n : ℕ). IsNumberedFrom (n + 1) ops) (sym numbered.0) numbered.1) ends.1 range.1)
+operations_fit before (op ∷ ops) numbered ends range = (
+  record { range = range.0; number = numbered.0; can = ends.0 },
+  operations_fit (record { number = op.number; step = op.invoked }) ops (subst (λ (n : ℕ). IsNumberedFrom (n + 1) ops) (sym numbered.0) numbered.1) ends.1 range.1,
+)

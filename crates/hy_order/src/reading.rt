@@ -261,7 +261,11 @@ fn read_held_line(alloc: Global, last: Option<Key>, line: &mut OpenLine) -> Resu
 }
 
 /// The retrievable copies of the line, where a line feed ends it.
-fn read_closed_held(alloc: Global, last: Option<Key>, line: &mut OpenLine) -> Result<Held, LineError>
+fn read_closed_held(
+    alloc: Global,
+    last: Option<Key>,
+    line: &mut OpenLine,
+) -> Result<Held, LineError>
     ensures gives { Gives result (held_in last (opened_seen line.old)) }
     ensures number { line.new.number ≡ line.old.number }
 {
@@ -312,3 +316,6 @@ fn check_end(line: &OpenLine) -> Result<(), Cause>
         Err(Cause::NoLineEnd)
     }
 }
+
+#[cfg(test)]
+mod tests;

@@ -24,7 +24,7 @@ loop-line-preserved c =
     record {
       step = c.in_ok-op.ensures.range;
       so_far = rw (c.in_ok-push.ensures.items, next.number)
-      (items_go_on operation_lines c.loop-line.ops.items (record { number = c.loop-line.last; step = c.loop-line.step }) c.loop-line.cursor.number (opened_seen c.in-Some.line) c.take_by.new.self.lines c.in_ok-op.op _ c.in-Some.ensures.1 gives so_far);
+          (items_go_on operation_lines c.loop-line.ops.items (record { number = c.loop-line.last; step = c.loop-line.step }) c.loop-line.cursor.number (opened_seen c.in-Some.line) c.take_by.new.self.lines c.in_ok-op.op _ c.in-Some.ensures.1 gives so_far);
     }
 
 pub of-requires : goal.of-requires
