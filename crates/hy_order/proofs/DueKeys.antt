@@ -1,15 +1,12 @@
 -- The keys that are due, taken from the operations one by one from the back.
-use Rattle.std.proofs.Common.{◌≡◌, ℕ, ◌+◌, ◌<◌, List, [], ◌∷◌, length, get_or, drop, Some, None, Option, refl, sym, ap, ◌∙◌}
+use Rattle.std.proofs.Common.{◌≡◌, ℕ, ◌+◌, ◌<◌, List, [], ◌∷◌, length, get_or, drop, Some, refl, sym, ap, ◌∙◌}
 use Rattle.std.proofs.lemmas.List.{drop_more}
 use Rattle.std.specs.BTreeSet as set
 use Rattle.std.specs.Cmp.Lexicographic.{slice_cmp}
-use Rattle.std.specs.declared.cmp.Ordering.{Ordering}
-use Rattle.std.specs.declared.cmp.Ordering.TheVariants.{Less, Equal, Greater}
 use Rattle.std.specs.Ordering.{nat_cmp, match_ordering}
 use Rattle.hy_order.specs.declared.operation.Operation.{Operation}
 use Rattle.hy_order.specs.Keys.{insert_key, sorted_keys}
 use Rattle.hy_order.specs.ReportRanges.{register_key, register_keys}
-use Rattle.hy_order.specs.OpenLine.{OpenLine}
 
 -- a set takes a key as a sorted list does
 pub insert_key-set : (keys : List (List ℕ)) (key : List ℕ) → set.insert_key (slice_cmp nat_cmp) keys key ≡ insert_key key keys

@@ -1,14 +1,13 @@
 -- What was read before, in front of what is still read.
-use Rattle.std.proofs.Common.{◌≡◌, ℕ, Bool, true, false, cond, List, [], ◌∷◌, ◌++◌, Result, Ok, Err, refl, sym, ap, ◌∙◌, append_assoc, append-nil}
+use Rattle.std.proofs.Common.{◌≡◌, ℕ, Bool, true, false, List, [], ◌∷◌, ◌++◌, Result, Ok, Err, refl, sym, ap, ◌∙◌, append_assoc, append-nil}
 use Rattle.std.specs.Prelude.{codes, is_err, Option}
 use Rattle.hy_base.specs.declared.fault.Cause.{Cause}
 use Rattle.hy_base.specs.declared.fault.TextError.{TextError}
 use Rattle.hy_base.specs.declared.fault.TextError.TheVariants as errors
 use Rattle.hy_base.specs.declared.fault.TextFault.{TextFault}
-use Rattle.hy_text.specs.Gives.{TextFails, at_line, next_number, Fails}
+use Rattle.hy_text.specs.Gives.{TextFails, at_line, next_number}
 use Rattle.hy_text.specs.Line.{first_word, later_words}
 use Rattle.hy_text.specs.Slot.{◌>>=◌, number_of, end_of}
-use Rattle.hy_text.specs.declared.error.LineError.{LineError}
 use Rattle.hy_order.specs.OpenLine.{OpenLine, Rest, is_at}
 use Rattle.hy_order.specs.ReportReading.{Kind, Before, items_from, operation_lines, order_lines, held_lines}
 use Rattle.hy_order.specs.WordReaders.{numbers_of}

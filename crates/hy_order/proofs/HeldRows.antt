@@ -1,23 +1,19 @@
 -- The lines of retrievable copies: what is read is the row of copies of a key above the last.
-use Rattle.std.proofs.Common.{◌≡◌, ℕ, zero, suc, ◌+◌, ◌<◌, ◌≤◌, ◌^◌, Bool, true, false, cond, IsTrue, List, [], ◌∷◌, ◌++◌, length, map, Option, Some, None, Result, Ok, Err, refl, sym, ap, subst, ◌∙◌, arith}
+use Rattle.std.proofs.Common.{◌≡◌, ℕ, ◌<◌, Bool, true, false, cond, List, [], ◌∷◌, ◌++◌, map, Option, Some, None, Ok, Err, refl, sym, ap, subst, ◌∙◌}
 use Rattle.std.specs.Prelude.{codes}
 use Rattle.std.specs.Cmp.Lexicographic.{slice_cmp}
-use Rattle.std.specs.List.{AllByRecursion, list_any}
+use Rattle.std.specs.List.{AllByRecursion}
 use Rattle.std.specs.List.Sorted.{IsStrictlySortedBy}
 use Rattle.std.specs.Ordering.{nat_cmp, is_lt}
 use Rattle.std.specs.declared.cmp.Ordering.{Ordering}
 use Rattle.std.specs.declared.cmp.Ordering.TheVariants.{Less, Equal, Greater}
-use Rattle.std.specs.Fmt.{decimal}
 use Rattle.std.specs.Str.{bytes_eq}
 use Rattle.std.proofs.lemmas.Cmp.{nat_list_cmp_total}
 use Rattle.std.proofs.lemmas.Slice.Eq.{bytes_eq-Decides}
-use Rattle.hy_base.specs.declared.fault.Cause.{Cause}
 use Rattle.hy_base.specs.declared.fault.Cause.TheVariants.{BadKey, BadNumber}
 use Rattle.hy_record.specs.Clouds.{clouds_of}
-use Rattle.hy_record.specs.Key.{is_key}
-use Rattle.hy_record.specs.Stamp.{Timestamp}
 use Rattle.hy_text.specs.Line.{first_word, later_words}
-use Rattle.hy_text.specs.Slot.{◌>>=◌, key_word, end_of}
+use Rattle.hy_text.specs.Slot.{key_word, end_of}
 use Rattle.hy_text.proofs.Keys.{key_again}
 use Rattle.hy_text.proofs.Slots.{bind_ok, ok_is, end_takes, words_from_first}
 use Rattle.hy_order.specs.declared.held.Held.{Held}
@@ -26,9 +22,9 @@ use Rattle.hy_order.specs.Report.{held_row, stamp_words, cloud_word}
 use Rattle.hy_order.specs.ReportRanges.{IsTextHeld}
 use Rattle.hy_order.specs.ReportReading.{held_of, held_in, held_lines, items_from}
 use Rattle.hy_order.specs.WordReaders.{is_above, key_above, clouds_word_of, clouds_named_below, stamp_from}
-use Rattle.hy_order.proofs.CloudTable.{IsCloudWord, cloud_word_is}
+use Rattle.hy_order.proofs.CloudTable.{cloud_word_is}
 use Rattle.hy_order.proofs.CloudWords.{clouds_named_below-small}
-use Rattle.hy_order.proofs.LineGroups.{closed_ok, Takes, IsLineOf, AreLinesOf, FitAlong, line_of_row, items_take}
+use Rattle.hy_order.proofs.LineGroups.{closed_ok, Takes, AreLinesOf, FitAlong, line_of_row, items_take}
 use Rattle.hy_order.proofs.WordRows.{key_first, stamp_takes, stamp_again}
 
 -- ---- clouds

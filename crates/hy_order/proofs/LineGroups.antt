@@ -1,12 +1,11 @@
 -- The lines of a kind: what is read is their rows, and such rows are read again.
-use Rattle.std.proofs.Common.{◌≡◌, ℕ, ◌⊎◌, Bool, true, false, cond, ◌&&◌, List, [], ◌∷◌, ◌++◌, map, Result, Ok, Err, refl, sym, ap, subst, ◌∙◌, inl, inr}
+use Rattle.std.proofs.Common.{◌≡◌, ℕ, ◌⊎◌, Bool, true, false, cond, List, [], ◌∷◌, ◌++◌, map, Result, Ok, Err, refl, ap, subst, ◌∙◌, inl, inr}
 use Rattle.std.specs.List.{list_all}
 use Rattle.std.proofs.lemmas.Bool.{and_from}
 use Rattle.hy_base.specs.declared.fault.Cause.{Cause}
 use Rattle.hy_base.specs.declared.fault.TextFault.{TextFault}
 use Rattle.hy_text.specs.Gives.{at_line, next_number}
 use Rattle.hy_text.specs.Line.{ended_line}
-use Rattle.hy_text.specs.Slot.{◌>>=◌}
 use Rattle.hy_text.proofs.Slots.{bind_ok, ok_is}
 use Rattle.hy_order.specs.OpenLine.{OpenLine, Rest, opened}
 use Rattle.hy_order.specs.ReportReading.{Kind, items_from, closed, end_of_line}

@@ -1,12 +1,12 @@
 -- The line of an operation: what is read is the row of an operation in range, with an end that its action can have.
-use Rattle.std.proofs.Common.{◌≡◌, ℕ, ◌+◌, ◌^◌, ◌<◌, ◌≤◌, min, Bool, true, false, cond, IsTrue, List, [], ◌∷◌, ◌++◌, length, Result, Ok, Err, refl, sym, ap, subst, ◌∙◌, arith, append_assoc, append-nil}
+use Rattle.std.proofs.Common.{◌≡◌, ℕ, ◌+◌, ◌≤◌, min, true, IsTrue, List, [], ◌∷◌, ◌++◌, Ok, refl, sym, ap, subst, ◌∙◌, arith, append-nil}
 use Rattle.std.specs.Prelude.{codes}
 use Rattle.std.specs.List.{AllByRecursion}
 use Rattle.std.specs.Fmt.{decimal}
 use Rattle.std.specs.Str.{bytes_eq}
 use Rattle.std.proofs.lemmas.Slice.Eq.{bytes_eq-Decides}
 use Rattle.hy_text.specs.Line.{first_word, later_words}
-use Rattle.hy_text.specs.Slot.{◌>>=◌, number_of, end_of}
+use Rattle.hy_text.specs.Slot.{number_of, end_of}
 use Rattle.hy_text.proofs.Slots.{bind_ok, ok_is}
 use Rattle.hy_text.proofs.Slots as slots
 use Rattle.hy_order.specs.declared.operation.Operation.{Operation}
@@ -18,9 +18,9 @@ use Rattle.hy_order.specs.ReportRanges.{IsTextOperation, AreTextOperations}
 use Rattle.hy_order.specs.ReportReading.{Before, operation_of, operation_in, operation_lines, items_from}
 use Rattle.hy_order.specs.WordReaders.{number_after, action_from, end_from}
 use Rattle.hy_text.proofs.Numbers.{number_again}
-use Rattle.hy_order.proofs.WordRows.{Spells, number_word, action_takes, action_again}
-use Rattle.hy_order.proofs.EndRows.{IsEndOf, end_takes, end_again}
-use Rattle.hy_order.proofs.LineGroups.{closed_ok, Takes, IsLineOf, AreLinesOf, FitAlong, line_of_row, items_take}
+use Rattle.hy_order.proofs.WordRows.{number_word, action_takes, action_again}
+use Rattle.hy_order.proofs.EndRows.{end_takes, end_again}
+use Rattle.hy_order.proofs.LineGroups.{closed_ok, Takes, AreLinesOf, FitAlong, line_of_row, items_take}
 
 -- the words behind the keyword are those of the operation, which is in range and has the next number
 pub record SpellsOperation (last step : ℕ) (words : List (List ℕ)) (op : Operation) : Type 0 where

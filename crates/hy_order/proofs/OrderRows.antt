@@ -1,14 +1,13 @@
 -- The lines of orders: what is read is the row of an order of the key that is due.
-use Rattle.std.proofs.Common.{◌≡◌, ℕ, ◌<◌, ◌≤◌, ◌^◌, Bool, true, false, cond, IsTrue, List, [], ◌∷◌, ◌++◌, length, map, Result, Ok, Err, refl, sym, ap, subst, ◌∙◌, arith}
+use Rattle.std.proofs.Common.{◌≡◌, ℕ, ◌≤◌, Bool, true, false, cond, IsTrue, List, [], ◌∷◌, ◌++◌, map, Ok, Err, refl, sym, ap, subst, ◌∙◌, arith}
 use Rattle.std.specs.Prelude.{codes}
 use Rattle.std.specs.List.{AllByRecursion}
 use Rattle.std.specs.Fmt.{decimal}
 use Rattle.std.specs.Str.{bytes_eq}
 use Rattle.std.proofs.lemmas.Slice.Eq.{bytes_eq-Decides}
-use Rattle.hy_base.specs.declared.fault.Cause.{Cause}
 use Rattle.hy_base.specs.declared.fault.Cause.TheVariants.{BadKey}
 use Rattle.hy_record.specs.Key.{is_key}
-use Rattle.hy_text.specs.Line.{first_word, later_words, ended_line}
+use Rattle.hy_text.specs.Line.{first_word, later_words}
 use Rattle.hy_text.specs.Slot.{◌>>=◌, keyword, number_of}
 use Rattle.hy_text.proofs.Numbers.{number_takes, number_again}
 use Rattle.hy_text.proofs.Printed.{length-key}
@@ -19,7 +18,7 @@ use Rattle.hy_order.specs.Report.{order_row}
 use Rattle.hy_order.specs.ReportRanges.{IsTextNumber}
 use Rattle.hy_order.specs.ReportReading.{order_of, order_in, order_lines, has_key, items_from}
 use Rattle.hy_order.specs.WordReaders.{due_key, numbers_of}
-use Rattle.hy_order.proofs.LineGroups.{closed_ok, Takes, IsLineOf, AreLinesOf, FitAlong, state_after, line_of_row, items_take}
+use Rattle.hy_order.proofs.LineGroups.{closed_ok, Takes, AreLinesOf, FitAlong, state_after, line_of_row, items_take}
 
 numbers_take : (words : List (List ℕ)) (numbers : List ℕ) → numbers_of words ≡ Ok numbers → (words ≡ map decimal numbers) × AllByRecursion IsTextNumber numbers
 unfolding numbers_of

@@ -1,7 +1,7 @@
 -- The two laws of the text of a report: what is read is spelled so, and what is spelled so is read.
 use Rattle.std.proofs.Common.{◌≡◌, ℕ, suc, ◌+◌, ◌^◌, ◌<◌, ◌≤◌, Bool, true, false, cond, ◌&&◌, eqb, IsTrue, List, [], ◌∷◌, ◌++◌, length, map, Option, Some, None, Result, Ok, Err, refl, sym, ap, subst, ◌∙◌, arith, length-append, append-nil}
 use Rattle.std.specs.Prelude.{codes, IfOk}
-use Rattle.std.specs.List.{AllByRecursion, filter_map, list_all}
+use Rattle.std.specs.List.{AllByRecursion, list_all}
 use Rattle.std.specs.Fmt.{decimal}
 use Rattle.std.specs.Cmp.Lexicographic.{slice_cmp}
 use Rattle.std.specs.declared.cmp.Ordering.{Ordering}
@@ -35,17 +35,16 @@ use Rattle.hy_order.specs.declared.operation.End.TheVariants.{Replied, Pending}
 use Rattle.hy_order.specs.declared.operation.Operation.{Operation}
 use Rattle.hy_order.specs.declared.order.Order.{Order}
 use Rattle.hy_order.specs.declared.report.Report.{Report}
-use Rattle.hy_order.specs.declared.report.TheConstants.{LAST_STEP}
-use Rattle.hy_order.specs.History.{IsHistory, IsNumberedFrom}
+use Rattle.hy_order.specs.History.{IsNumberedFrom}
 use Rattle.hy_order.specs.Keys.{insert_key, sorted_keys}
 use Rattle.hy_order.specs.OpenLine.{OpenLine, Rest, opened}
 use Rattle.hy_order.specs.Report.{operation_row, order_row, held_row, end_row, report_rows, report_text, stamp_words, action_words, reply_words, phase_word, end_words, cloud_word}
 use Rattle.hy_order.specs.ReportRanges.{IsReport, IsTextStamp, IsTextAction, IsTextReply, IsTextEnd, IsTextOperation, AreTextOperations, IsTextNumber, IsTextHeld, register_key, register_keys}
-use Rattle.hy_order.specs.ReportReading.{Before, closed, counts_of, end_in, items_from, operation_lines, order_lines, held_lines, has_key, nothing_in, last_line, report_at, report_of}
+use Rattle.hy_order.specs.ReportReading.{Before, counts_of, end_in, items_from, operation_lines, order_lines, held_lines, nothing_in, last_line, report_at, report_of}
 use Rattle.hy_order.proofs.CloudTable.{cloud_word_is}
 use Rattle.hy_order.proofs.Fronts.{is_next_due, no_key_due}
 use Rattle.hy_order.proofs.HeldRows.{FitsAbove, helds_take, rising, ranges_taken, helds_fit, held_again}
-use Rattle.hy_order.proofs.LineGroups.{at_line_ok, closed_ok, rows_in, all_ended, FitAlong, state_after, AreLinesOf, line_of_row, items_again}
+use Rattle.hy_order.proofs.LineGroups.{at_line_ok, closed_ok, rows_in, all_ended, state_after, line_of_row, items_again}
 use Rattle.hy_order.proofs.OperationRows.{FitsBehind, operations_take, operations_from_fits, operations_fit, operation_again}
 use Rattle.hy_order.proofs.OrderRows.{FitsKeys, AreKeys, orders_take, keys_taken, numbers_taken, orders_fit, order_again}
 use Rattle.hy_order.proofs.WordRows.{number_word}

@@ -1,20 +1,15 @@
 -- Groups of words: what is read is the row of what it spells, in range, and such a row is read again.
-use Rattle.std.proofs.Common.{◌≡◌, ℕ, ◌+◌, ◌^◌, ◌<◌, ◌≤◌, ◌⊎◌, Bool, true, false, cond, IsTrue, List, [], ◌∷◌, ◌++◌, length, min, Result, Ok, Err, refl, sym, ap, subst, ◌∙◌, arith, inl, inr}
+use Rattle.std.proofs.Common.{◌≡◌, ℕ, ◌^◌, ◌<◌, ◌≤◌, ◌⊎◌, Bool, true, false, cond, IsTrue, List, ◌∷◌, ◌++◌, length, Result, Ok, Err, refl, sym, ap, subst, ◌∙◌, arith, inl, inr}
 use Rattle.std.specs.Prelude.{codes}
 use Rattle.std.specs.Fmt.{decimal}
 use Rattle.std.specs.Str.{bytes_eq}
 use Rattle.std.proofs.lemmas.Slice.Eq.{bytes_eq-Decides}
-use Rattle.hy_base.specs.declared.fault.Cause.{Cause}
 use Rattle.hy_base.specs.declared.fault.Cause.TheVariants.{BadWord}
 use Rattle.hy_base.specs.declared.limits.TheConstants.{MAX_TEXT_VALUE}
 use Rattle.hy_record.specs.Key.{is_key}
 use Rattle.hy_record.specs.Stamp.{Timestamp}
 use Rattle.hy_record.specs.declared.action.Action.{Action}
 use Rattle.hy_record.specs.declared.action.Action.TheVariants as asked
-use Rattle.hy_record.specs.declared.action.Reply.{Reply}
-use Rattle.hy_record.specs.declared.action.Reply.TheVariants as told
-use Rattle.hy_record.specs.declared.action.Phase.{Phase}
-use Rattle.hy_record.specs.declared.action.Phase.TheVariants as phase
 use Rattle.hy_text.specs.Line.{first_word, later_words}
 use Rattle.hy_text.specs.Slot.{number_of, value_of, key_word, value_word}
 use Rattle.hy_text.proofs.Keys.{key_takes, key_again}
@@ -22,13 +17,9 @@ use Rattle.hy_text.proofs.Numbers.{number_takes, number_again}
 use Rattle.hy_text.proofs.Printed.{length-decimal, length-key, length-value_word}
 use Rattle.hy_text.proofs.Slots.{bind_ok, ok_is, words_from_first}
 use Rattle.hy_text.proofs.Values.{value_takes, value_again}
-use Rattle.hy_order.specs.declared.operation.End.{End}
-use Rattle.hy_order.specs.declared.operation.End.TheVariants.{Replied, Pending}
-use Rattle.hy_order.specs.declared.report.TheConstants.{LAST_STEP}
-use Rattle.hy_order.specs.History.{is_reply_of, is_phase_of, is_end_of}
-use Rattle.hy_order.specs.Report.{stamp_words, action_words, reply_words, phase_word, end_words}
-use Rattle.hy_order.specs.ReportRanges.{IsTextValue, IsTextStamp, IsTextAction, IsTextReply, IsTextEnd}
-use Rattle.hy_order.specs.WordReaders.{stamp_from, put_from, key_from, action_from, write_reply_from, value_from, get_reply_from, collect_reply_from, reply_from, phase_of, phase_word_of, pending_from, replied_from, end_from}
+use Rattle.hy_order.specs.Report.{stamp_words, action_words}
+use Rattle.hy_order.specs.ReportRanges.{IsTextValue, IsTextStamp, IsTextAction}
+use Rattle.hy_order.specs.WordReaders.{stamp_from, put_from, key_from, action_from}
 
 -- ---- what is read
 

@@ -1,9 +1,8 @@
 -- A line that is read moves its copies from what is left to what was read; the first that is not is the fault of all.
-use Rattle.std.proofs.Common.{◌≡◌, [], ◌∷◌, ◌++◌, arith, sym, ap, ◌∙◌}
 use Rattle.std.proofs.lemmas.Result.{err_from_is_err_and}
 use Rattle.hy_order.specs.OpenLine.{opened_seen}
-use Rattle.hy_order.specs.ReportReading.{items_from, held_lines}
-use Rattle.hy_order.proofs.Fronts.{with_items, items_go_on, items_fail, items_end, no_held_due}
+use Rattle.hy_order.specs.ReportReading.{held_lines}
+use Rattle.hy_order.proofs.Fronts.{items_go_on, items_fail, items_end, no_held_due}
 use Rattle.hy_order.proofs.reading.read_copies.Goals as goal
 
 pub returns-in_err-held : goal.returns-in_err-held

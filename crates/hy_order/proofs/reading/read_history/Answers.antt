@@ -1,9 +1,8 @@
 -- A line that is read moves its operation from what is left to what was read; the first that is not is the fault of all.
-use Rattle.std.proofs.Common.{◌≡◌, [], ◌∷◌, ◌++◌, arith, sym, ap, ◌∙◌}
 use Rattle.std.proofs.lemmas.Result.{err_from_is_err_and}
 use Rattle.hy_order.specs.OpenLine.{opened_seen}
-use Rattle.hy_order.specs.ReportReading.{Before, items_from, operation_lines}
-use Rattle.hy_order.proofs.Fronts.{with_items, items_go_on, items_fail, items_end, no_operation_due}
+use Rattle.hy_order.specs.ReportReading.{Before, operation_lines}
+use Rattle.hy_order.proofs.Fronts.{items_go_on, items_fail, items_end, no_operation_due}
 use Rattle.hy_order.proofs.OperationRows.{is_history}
 use Rattle.hy_order.proofs.reading.read_history.Goals as goal
 

@@ -1,10 +1,10 @@
 -- A line that is read moves its order from what is left to what was read; the first that is not is the fault of all.
-use Rattle.std.proofs.Common.{◌≡◌, ◌+◌, List, ℕ, Bool, false, true, [], ◌∷◌, ◌++◌, drop, refl, subst, arith, sym, ap, ◌∙◌}
+use Rattle.std.proofs.Common.{◌≡◌, ◌+◌, List, ℕ, false, [], ◌∷◌, drop, refl, sym, ap, ◌∙◌}
 use Rattle.std.proofs.lemmas.List.{drop_more, drop_all}
 use Rattle.std.proofs.lemmas.Result.{err_from_is_err_and}
 use Rattle.hy_order.specs.OpenLine.{opened_seen}
-use Rattle.hy_order.specs.ReportReading.{items_from, order_lines}
-use Rattle.hy_order.proofs.Fronts.{with_items, items_go_on, items_fail, items_end, is_next_due, no_key_due}
+use Rattle.hy_order.specs.ReportReading.{order_lines}
+use Rattle.hy_order.proofs.Fronts.{items_go_on, items_fail, items_end, is_next_due, no_key_due}
 use Rattle.hy_order.proofs.reading.read_orders.Goals as goal
 
 pub returns-in_default : goal.returns-in_default

@@ -1,7 +1,7 @@
 -- One cloud more, where its digit stands in the word.
-use Rattle.std.proofs.Common.{◌∙◌, sym, refl, ap, arith}
+use Rattle.std.proofs.Common.{◌∙◌, sym, refl, arith}
 use Rattle.hy_order.specs.WordReaders.{clouds_named_below}
-use Rattle.hy_order.proofs.CloudWords.{IsSoFar, named_there, named_absent}
+use Rattle.hy_order.proofs.CloudWords.{named_there, named_absent}
 use Rattle.hy_order.proofs.slots.clouds_named.Goals as goal
 use Rattle.hy_order.proofs.slots.clouds_named.Goals.{then-contains, else-contains}
 

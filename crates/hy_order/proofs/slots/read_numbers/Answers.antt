@@ -1,11 +1,11 @@
 -- A word that is read moves its number from what is left to what was read.
-use Rattle.std.proofs.Common.{◌≡◌, true, false, Err, Ok, arith, sym, ap, ◌∙◌, rules}
+use Rattle.std.proofs.Common.{◌≡◌, true, false, Err, Ok, arith}
 use Rattle.std.specs.Prelude.{is_err}
 use Rattle.std.proofs.lemmas.Grind.{common_steps}
-use Rattle.hy_text.specs.Line.{first_word, later_words}
+use Rattle.hy_text.specs.Line.{first_word}
 use Rattle.hy_text.specs.Slot.{end_of, number_of}
 use Rattle.hy_order.specs.WordReaders.{numbers_of}
-use Rattle.hy_order.proofs.Fronts.{with_front, numbers_go_on, numbers_fail, numbers_end}
+use Rattle.hy_order.proofs.Fronts.{numbers_go_on, numbers_fail, numbers_end}
 use Rattle.hy_order.proofs.slots.read_numbers.Goals as goal
 
 pub returns-in_err-number : goal.returns-in_err-number
