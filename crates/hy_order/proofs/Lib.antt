@@ -1,3 +1,14 @@
+pub mod ReportLaws
+pub mod OrderRows
+pub mod HeldRows
+pub mod CloudTable
+pub mod LineGroups
+pub mod EndRows
+pub mod OperationRows
+pub mod DueKeys
+pub mod WordRows
+pub mod CloudWords
+pub mod Fronts
 mod Spaced
 mod Lines
 mod Clouds

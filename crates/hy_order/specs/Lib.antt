@@ -5,3 +5,7 @@ pub mod Report
 pub mod Words
 pub mod Violation
 pub mod Checking
+pub mod OpenLine
+pub mod WordReaders
+pub mod ReportRanges
+pub mod ReportReading

@@ -2,11 +2,15 @@
 #![tactic(auto)]
 
 mod checking;
+mod cursor;
 mod held;
 mod history;
 mod operation;
+mod operation_line;
 mod order;
+mod reading;
 mod report;
+mod slots;
 mod writing;
 
 pub use checking::{Verdict, check, legal_exactly_for_linearizations};
@@ -14,5 +18,6 @@ pub use held::{Held, HeldList};
 pub use history::History;
 pub use operation::{End, Operation};
 pub use order::{Order, Orders};
-pub use report::Report;
+pub use reading::read_report;
+pub use report::{LAST_STEP, Report};
 pub use writing::write_report;

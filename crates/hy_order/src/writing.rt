@@ -207,7 +207,7 @@ fn push_held(out: &mut Vec<u8>, held: &Held) -> Result<(), NoMemory>
     Ok(())
 }
 
-fn push_clouds(out: &mut Vec<u8>, clouds: &[u32]) -> Result<(), NoMemory>
+pub(crate) fn push_clouds(out: &mut Vec<u8>, clouds: &[u32]) -> Result<(), NoMemory>
     ensures { OnOk result (out.new.items ≡ out.old.items ++ 32 ∷ cloud_word clouds.now) }
 {
     let Some((first, rest)) = clouds.split_first() else {
@@ -219,7 +219,7 @@ fn push_clouds(out: &mut Vec<u8>, clouds: &[u32]) -> Result<(), NoMemory>
 }
 
 /// The numbers of the clouds of the set, in increasing order.
-fn cloud_numbers(alloc: Global, clouds: u16) -> Result<Vec<u32>, NoMemory>
+pub(crate) fn cloud_numbers(alloc: Global, clouds: u16) -> Result<Vec<u32>, NoMemory>
     ensures { IfOk result (λ numbers. numbers.items ≡ clouds_of clouds) }
 {
     let mut numbers = Vec::new(alloc);

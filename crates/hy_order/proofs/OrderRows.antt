@@ -1,0 +1,128 @@
+-- The lines of orders: what is read is the row of an order of the key that is due.
+use Rattle.std.proofs.Common.{◌≡◌, ℕ, ◌≤◌, Bool, true, false, cond, IsTrue, List, [], ◌∷◌, ◌++◌, map, Ok, Err, refl, sym, ap, subst, ◌∙◌, arith}
+use Rattle.std.specs.Prelude.{codes}
+use Rattle.std.specs.List.{AllByRecursion}
+use Rattle.std.specs.Fmt.{decimal}
+use Rattle.std.specs.Str.{bytes_eq}
+use Rattle.std.proofs.lemmas.Slice.Eq.{bytes_eq-Decides}
+use Rattle.hy_base.specs.declared.fault.Cause.TheVariants.{BadKey}
+use Rattle.hy_record.specs.Key.{is_key}
+use Rattle.hy_text.specs.Line.{first_word, later_words}
+use Rattle.hy_text.specs.Slot.{◌>>=◌, keyword, number_of}
+use Rattle.hy_text.proofs.Numbers.{number_takes, number_again}
+use Rattle.hy_text.proofs.Printed.{length-key}
+use Rattle.hy_text.proofs.Slots.{bind_ok, ok_is, keyword_takes, words_from_first}
+use Rattle.hy_order.specs.declared.order.Order.{Order}
+use Rattle.hy_order.specs.OpenLine.{OpenLine, Rest}
+use Rattle.hy_order.specs.Report.{order_row}
+use Rattle.hy_order.specs.ReportRanges.{IsTextNumber}
+use Rattle.hy_order.specs.ReportReading.{order_of, order_in, order_lines, has_key, items_from}
+use Rattle.hy_order.specs.WordReaders.{due_key, numbers_of}
+use Rattle.hy_order.proofs.LineGroups.{closed_ok, Takes, AreLinesOf, FitAlong, state_after, line_of_row, items_take}
+
+numbers_take : (words : List (List ℕ)) (numbers : List ℕ) → numbers_of words ≡ Ok numbers → (words ≡ map decimal numbers) × AllByRecursion IsTextNumber numbers
+unfolding numbers_of
+numbers_take [] numbers e =
+    let same : [] ≡ numbers = ok_is [] numbers e in
+    subst (λ (ns : List ℕ). ([] ≡ map decimal ns) × AllByRecursion IsTextNumber ns) same (refl, tt)
+numbers_take (word ∷ words) numbers e =
+    let number = bind_ok (number_of 1 4294967295 word) _ numbers e in
+    let more = bind_ok (numbers_of words) (λ later. Ok (number.0 ∷ later)) numbers number.2 in
+    let n = number_takes 1 4294967295 word number.0 number.1 in
+    let rest = numbers_take words more.0 more.1 in
+    let row : word ∷ words ≡ decimal number.0 ∷ map decimal more.0 = ap (λ (w : List ℕ). w ∷ words) n.printed ∙ ap (λ (ws : List (List ℕ)). decimal number.0 ∷ ws) rest.0 in
+    subst (λ (ns : List ℕ). (word ∷ words ≡ map decimal ns) × AllByRecursion IsTextNumber ns) (ok_is (number.0 ∷ more.0) numbers more.2)
+    (row, ((n.low_end, n.high_end), rest.1))
+
+pub numbers_again : (numbers : List ℕ) → AllByRecursion IsTextNumber numbers → numbers_of (map decimal numbers) ≡ Ok numbers
+unfolding numbers_of
+numbers_again [] fits = refl
+numbers_again (number ∷ numbers) fits =
+    let low : 1 ≤ number = fits.0.0 in
+    let high : number ≤ 4294967295 = fits.0.1 in
+    rw (number_again 1 4294967295 number (omega arith) low high, numbers_again numbers fits.1) refl
+
+due_taken : (t : Bool) (u : Unit {0}) → cond t (Ok tt) (Err BadKey) ≡ Ok u → t ≡ true
+due_taken true u e = refl
+due_taken false u e = absurd cc
+
+-- the order is of the first key that is due, and its numbers are in range
+pub record FitsKeys (keys : List (List ℕ)) (order : Order) : Type 0 where
+  pub there : has_key keys ≡ true
+  pub key : order.key ≡ first_word keys
+  pub numbers : AllByRecursion IsTextNumber order.ops
+
+-- the keys that are due are keys
+abbrev pub AreKeys : List (List ℕ) → Type 0
+AreKeys keys = AllByRecursion (λ key. IsTrue (is_key key)) keys
+
+first_is_key : (keys : List (List ℕ)) → AreKeys keys → has_key keys ≡ true → IsTrue (is_key (first_word keys))
+first_is_key [] are there = absurd cc
+first_is_key (key ∷ keys) are there = are.0
+
+later_are : (keys : List (List ℕ)) → AreKeys keys → AreKeys (later_words keys)
+later_are [] are = tt
+later_are (key ∷ keys) are = are.1
+
+-- the words behind the keyword are those of the order
+record SpellsOrder (key : List ℕ) (words : List (List ℕ)) (order : Order) : Type 0 where
+  row : codes "order" ∷ words ≡ order_row order
+  same : order.key ≡ key
+  numbers : AllByRecursion IsTextNumber order.ops
+
+order_takes : (key : List ℕ) (words : List (List ℕ)) (order : Order) → IsTrue (is_key key) → order_of key words ≡ Ok order → SpellsOrder key words order
+unfolding order_of
+order_takes key words order is e =
+    let due = bind_ok (due_key key (first_word words)) (λ _. numbers_of (later_words words) >>= λ numbers. Ok (record { key = key; ops = numbers })) order e in
+    let numbers = bind_ok (numbers_of (later_words words)) (λ numbers. Ok (record { key = key; ops = numbers })) order due.2 in
+    let first : first_word words ≡ key = (bytes_eq-Decides (first_word words) key).0 (due_taken (bytes_eq (first_word words) key) due.0 due.1) in
+    let n = numbers_take (later_words words) numbers.0 numbers.1 in
+    let row : words ≡ key ∷ map decimal numbers.0 = words_from_first words key first (length-key key is) ∙ ap (λ (ws : List (List ℕ)). key ∷ ws) n.0 in
+    subst (SpellsOrder key words) (ok_is (record { key = key; ops = numbers.0 }) order numbers.2)
+    (record { row = ap (λ (ws : List (List ℕ)). codes "order" ∷ ws) row; same = refl; numbers = n.1 })
+
+order_line_takes : Takes order_lines order_row FitsKeys AreKeys
+order_line_takes keys line order are due e =
+    let parts = closed_ok line.ended (keyword (codes "order") line.keyword >>= λ _. order_of (first_word keys) line.words) order e in
+    let word = bind_ok (keyword (codes "order") line.keyword) (λ _. order_of (first_word keys) line.words) order parts.1 in
+    let spells = order_takes (first_word keys) line.words order (first_is_key keys are due) word.2 in
+    record {
+      row = ap (λ (w : List ℕ). w ∷ line.words) (keyword_takes (codes "order") line.keyword word.0 word.1) ∙ spells.row;
+      ended = parts.0;
+      fits = record { there = due; key = spells.same; numbers = spells.numbers };
+    }
+
+pub orders_take : (keys : List (List ℕ)) (number : ℕ) (lines : List OpenLine) (read : List Order × Rest) → AreKeys keys → items_from order_lines keys number lines ≡ Ok read
+    → AreLinesOf order_lines order_row FitsKeys keys lines read
+orders_take keys number lines read are e = items_take order_lines order_row FitsKeys AreKeys order_line_takes (λ keys order are. later_are keys are) keys number lines read are e
+
+-- the orders take the keys one by one
+pub keys_taken : (keys : List (List ℕ)) (orders : List Order) → FitAlong order_lines FitsKeys keys orders
+    → keys ≡ map (λ (order : Order). order.key) orders ++ state_after order_lines keys orders
+keys_taken keys [] fits = refl
+keys_taken [] (order ∷ orders) fits = let there = fits.0.there in absurd cc
+keys_taken (key ∷ keys) (order ∷ orders) fits =
+    ap (λ (k : List ℕ). k ∷ keys) (sym fits.0.key) ∙ ap (λ (ks : List (List ℕ)). order.key ∷ ks) (keys_taken keys orders fits.1)
+
+pub numbers_taken : (keys : List (List ℕ)) (orders : List Order) → FitAlong order_lines FitsKeys keys orders → AllByRecursion (λ (order : Order). AllByRecursion IsTextNumber order.ops) orders
+numbers_taken keys [] fits = tt
+numbers_taken keys (order ∷ orders) fits = (fits.0.numbers, numbers_taken (later_words keys) orders fits.1)
+
+-- ---- an order is read again
+
+pub order_again : (keys : List (List ℕ)) (order : Order) → FitsKeys keys order → (has_key keys ≡ true) × (order_in (first_word keys) (line_of_row (order_row order)) ≡ Ok order)
+unfolding order_of
+order_again keys order fits =
+    let same : bytes_eq order.key (first_word keys) ≡ true = (bytes_eq-Decides order.key (first_word keys)).1 fits.key in
+    (fits.there, rw (same, numbers_again order.ops fits.numbers, ← fits.key) refl)
+
+-- orders of keys in a row fit them
+pub orders_fit : (keys : List (List ℕ)) (orders : List Order) → map (λ (order : Order). order.key) orders ≡ keys → AllByRecursion (λ (order : Order). AllByRecursion IsTextNumber order.ops) orders
+    → FitAlong order_lines FitsKeys keys orders × (state_after order_lines keys orders ≡ [])
+orders_fit keys [] e numbers = (tt, sym e)
+orders_fit [] (order ∷ orders) e numbers = absurd cc
+orders_fit (key ∷ keys) (order ∷ orders) e numbers =
+    let head : order.key ≡ key = ap first_word e in
+    let tail : map (λ (order : Order). order.key) orders ≡ keys = ap later_words e in
+    let more = orders_fit keys orders tail numbers.1 in
+    ((record { there = refl; key = head; numbers = numbers.0 }, more.0), more.1)
