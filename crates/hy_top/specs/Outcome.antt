@@ -1,10 +1,12 @@
 -- What a job comes to, when it does, and the text and the status that tell it.
-use Rattle.std.specs.Prelude.{◌≡◌, ℕ, ◌<◌, List, [], ◌∷◌, length, reverse, codes, Err}
+use Rattle.std.specs.Prelude.{◌≡◌, ℕ, ◌<◌, ◌≤◌, List, [], ◌∷◌, length, reverse, codes, Result, Ok, Err}
 use Rattle.std.specs.Fmt.{decimal}
 use Rattle.hy_base.specs.Faults.{Rose}
 use Rattle.hy_base.specs.Source.{Takes, IsAtEnd}
 use Rattle.hy_base.specs.declared.limits.TheConstants.{MAX_INPUT}
 use Rattle.hy_base.specs.declared.fault.TextFault.{TextFault}
+use Rattle.hy_base.specs.declared.reading.ReadAllFault.{ReadAllFault}
+use Rattle.hy_base.specs.declared.reading.ReadAllFault.TheVariants as faults
 use Rattle.hy_text.specs.Cause.{cause_word}
 use Rattle.hy_text.specs.Line.{line_text}
 use Rattle.hy_order.specs.Linearization.{IsReportLinearizable}
@@ -19,9 +21,31 @@ use Rattle.hy_top.specs.declared.status.Status.TheVariants as status
 use Rattle.hy_top.specs.declared.outcome.Outcome.{Outcome}
 use Rattle.hy_top.specs.declared.outcome.Outcome.TheVariants.{BadWords, ReadFault, TooLong, BadInput, Done}
 
--- the input was read to its end, and this was it
-abbrev pub IsWholeInput : InputUse → List ℕ → Type 0
-IsWholeInput input text = Takes input.left_before input.left_after text × IsAtEnd input.left_after
+-- the input was read to its end, and this was it, within the limit of an input
+pub record IsWholeInput (input : InputUse) (text : List ℕ) : Type 0 where
+  pub takes : Takes input.left_before input.left_after text
+  pub ended : IsAtEnd input.left_after
+  pub within : length text ≤ MAX_INPUT
+
+-- a read failed, and no byte past the limit of an input had been read
+pub record IsUnreadable (input : InputUse) : Type 0 where
+  pub rose : Rose input.faults_before input.faults_after
+  pub taken : List ℕ
+  pub takes : Takes input.left_before input.left_after taken
+  pub within : length taken ≤ MAX_INPUT
+
+-- a byte past the limit of an input was read
+pub record IsOverlong (input : InputUse) : Type 0 where
+  pub taken : List ℕ
+  pub takes : Takes input.left_before input.left_after taken
+  pub beyond : MAX_INPUT < length taken
+
+-- what reading an input answers
+abbrev pub IsInput : InputUse → Result (List ℕ) ReadAllFault → Type 0
+IsInput input (Ok text) = IsWholeInput input text
+IsInput input (Err faults.ReadFault) = IsUnreadable input
+IsInput input (Err faults.TooLong) = IsOverlong input
+IsInput input (Err faults.NoMemory) = Unit {0}
 
 -- the text is that of a quiet schedule; the output is its report, in which each order is linearizable
 pub record IsReplayed (text output : List ℕ) : Type 0 where
@@ -50,16 +74,10 @@ pub record ReadsAndReplays (input : InputUse) (outcome : Outcome) : Type 0 where
   pub read : IsWholeInput input text
   pub replayed : Replays text outcome
 
--- a byte past the limit of an input was read
-pub record IsOverlong (input : InputUse) : Type 0 where
-  pub taken : List ℕ
-  pub takes : Takes input.left_before input.left_after taken
-  pub beyond : MAX_INPUT < length taken
-
 -- when the words and the input come to an outcome
 abbrev pub ComesTo : List (List ℕ) → InputUse → Outcome → Type 0
 ComesTo words input BadWords = ¬ AsksReplay words
-ComesTo words input ReadFault = AsksReplay words × Rose input.faults_before input.faults_after
+ComesTo words input ReadFault = AsksReplay words × IsUnreadable input
 ComesTo words input TooLong = AsksReplay words × IsOverlong input
 ComesTo words input (BadInput fault) = AsksReplay words × ReadsAndReplays input (BadInput fault)
 ComesTo words input (Done output) = AsksReplay words × ReadsAndReplays input (Done output)

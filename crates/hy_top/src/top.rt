@@ -4,7 +4,7 @@ ghost use Rattle.std.specs.Prelude.{◌≡◌, ◌≤◌, IfOk, map};
 ghost use Rattle.std.specs.String.{string_bytes};
 ghost use Rattle.hy_top.specs.Answer.{Answers, IsTold};
 ghost use Rattle.hy_top.specs.Command.{AsksReplay};
-ghost use Rattle.hy_top.specs.Outcome.{ComesTo, Replays};
+ghost use Rattle.hy_top.specs.Outcome.{ComesTo, IsInput, Replays};
 
 use crate::command::asks_replay;
 use crate::outcome::Outcome;
@@ -67,12 +67,25 @@ fn outcome_of<S: Source>(
     if !asks_replay(words) {
         return Ok(Outcome::BadWords);
     }
-    match read_all(alloc, input, MAX_INPUT) {
+    match read_input(alloc, input) {
         Ok(text) => replay_text(alloc, text),
         Err(ReadAllFault::ReadFault) => Ok(Outcome::ReadFault),
         Err(ReadAllFault::TooLong) => Ok(Outcome::TooLong),
         Err(ReadAllFault::NoMemory) => Err(NoMemory),
     }
+}
+
+/// The input, read to its end.
+fn read_input<S: Source>(alloc: Global, input: &mut S) -> Result<Blob, ReadAllFault>
+    ensures input { IsInput (record {
+      left_before = S.left input.old;
+      left_after = S.left input.new;
+      faults_before = S.faults input.old;
+      faults_after = S.faults input.new;
+    }) result }
+    ensures reads { S.faults input.old ≤ S.faults input.new }
+{
+    read_all(alloc, input, MAX_INPUT)
 }
 
 /// The report of the schedule that the text is.
