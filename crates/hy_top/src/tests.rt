@@ -35,10 +35,15 @@ impl Row {
     }
 }
 
-/// A replay of this text, where no call fails.
-fn replay_of(text: &'static str, status: Status, written: &'static str) -> Row {
+/// A call with these words over this text, where no read and no write fails.
+fn call_of(
+    words: &'static [&'static str],
+    text: &'static str,
+    status: Status,
+    written: &'static str,
+) -> Row {
     Row {
-        words: &["replay"],
+        words,
         text,
         line_feeds: 0,
         failing_read: 0,
@@ -46,6 +51,11 @@ fn replay_of(text: &'static str, status: Status, written: &'static str) -> Row {
         status,
         written,
     }
+}
+
+/// A replay of this text, where no read and no write fails.
+fn replay_of(text: &'static str, status: Status, written: &'static str) -> Row {
+    call_of(&["replay"], text, status, written)
 }
 
 /// The status of an input whose first bad line is this one.
@@ -102,8 +112,7 @@ fn other_words_are_refused_and_read_nothing(rt: HostRuntime) -> Result<(), Fail>
         &["--help"],
         &["replay "],
     ] {
-        let mut row = replay_of(PUT_THEN_GET, Status::BadWords, "bad words\n");
-        row.words = words;
+        let mut row = call_of(words, PUT_THEN_GET, Status::BadWords, "bad words\n");
         row.failing_read = 1;
         let (status, written) = row.answer(rt.alloc())?;
         assert_eq!(rt; status, row.status, "{words:?}");
