@@ -1,6 +1,6 @@
 //! Laws of every metadata service, above the definitions: each is a function without a body that ensures it.
 
-ghost use Rattle.std.specs.Prelude.{◌≡◌, ◌+◌, ◌≤◌, ◌∷◌, ◌++◌, ℕ, List, IsTrue, Some, true, false, not, filter, count_by, if◌then◌else◌};
+ghost use Rattle.std.specs.Prelude.{◌≡◌, ◌+◌, ◌∷◌, ◌++◌, ℕ, List, Some, true, false, filter, count_by, if◌then◌else◌};
 ghost use Rattle.hy_record.specs.declared.message.MetaAsk.{MetaAsk};
 ghost use Rattle.hy_record.specs.declared.message.MetaAsk.TheVariants as asks;
 ghost use Rattle.hy_record.specs.Stamp.{Timestamp, stamp_lt};

@@ -1,6 +1,6 @@
 //! What the service keeps of each key: the record, and the superseded timestamps.
 
-ghost use Rattle.std.specs.Prelude.{◌≡◌, ◌<◌, [], not, filter, OnOk, OnErr, IfSome, IfOk, IsTrue, MatchOption, length, take};
+ghost use Rattle.std.specs.Prelude.{◌≡◌, ◌<◌, not, filter, OnOk, OnErr, IfSome, IfOk, IsTrue, MatchOption, length, take};
 ghost use Rattle.std.specs.Option.{option_copied};
 ghost use Rattle.std.specs.List.{position};
 ghost use Rattle.hy_record.specs.Key.{key_eq};

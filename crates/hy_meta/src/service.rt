@@ -1,15 +1,14 @@
 //! The first metadata service: lists that are searched from the front.
 
-ghost use Rattle.std.specs.Prelude.{◌≡◌, ◌∷◌, ◌++◌, [], not, List, IfOk, OnOk, OnErr, IsTrue, MatchOption, map, filter, take, true, false};
-ghost use Rattle.std.specs.Option.{option_copied};
+ghost use Rattle.std.specs.Prelude.{◌≡◌, ◌∷◌, [], not, IfOk, OnOk, OnErr, map, filter, false};
 ghost use Rattle.std.specs.Bool.{MatchBool};
 ghost use Rattle.hy_record.specs.declared.message.MetaAsk.{MetaAsk};
 ghost use Rattle.hy_record.specs.declared.message.MetaAsk.TheVariants as asks;
 ghost use Rattle.hy_record.specs.declared.message.MetaSay.TheVariants as says;
 ghost use Rattle.hy_record.specs.Stamp.{stamp_lt};
-ghost use Rattle.hy_meta.specs.Service.{stamp_of_record, record_after, is_old, has_stamp};
-ghost use Rattle.hy_meta.specs.Watches.{fired, service_answers};
-ghost use Rattle.hy_meta.specs.Rows.{row_of, record_in, record_of_row, PutsRow, SameRows, AddsOld, superseded};
+ghost use Rattle.hy_meta.specs.Service.{is_old};
+ghost use Rattle.hy_meta.specs.Watches.{fired};
+ghost use Rattle.hy_meta.specs.Rows.{row_of, PutsRow, SameRows, AddsOld, superseded};
 ghost use Rattle.hy_meta.specs.Held.{Serves, Says, GoesOn, is_due};
 
 use crate::meta::{Meta, SessionsFull};
@@ -41,6 +40,7 @@ impl Service {
         })
     }
 
+    /// What a read is answered.
     fn read(&self, alloc: Global, client: u32, op: u32, key: &Key) -> Result<Vec<MetaSay>, NoMemory>
         ensures { Says (Serves self.now.rows.items self.now.watches.items) (asks.Read client op key.now) result }
     {
@@ -57,6 +57,7 @@ impl Service {
         )
     }
 
+    /// Serves an update.
     fn update(
         &mut self,
         alloc: Global,
@@ -78,6 +79,7 @@ impl Service {
         }
     }
 
+    /// Serves a watch.
     fn watch(
         &mut self,
         alloc: Global,
@@ -104,6 +106,7 @@ impl Service {
         Ok(Vec::new(alloc))
     }
 
+    /// What a request for the superseded timestamps is answered.
     fn olds(&self, alloc: Global, client: u32, op: u32, key: &Key) -> Result<Vec<MetaSay>, NoMemory>
         ensures { Says (Serves self.now.rows.items self.now.watches.items) (asks.Olds client op key.now) result }
     {
@@ -120,6 +123,7 @@ impl Service {
         )
     }
 
+    /// Serves a request to forget superseded timestamps.
     fn forget(
         &mut self,
         alloc: Global,

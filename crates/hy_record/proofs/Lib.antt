@@ -5,3 +5,4 @@ pub mod Fields
 pub mod Records
 pub mod Names
 pub mod Order
+pub mod CloudSets

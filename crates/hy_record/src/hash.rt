@@ -1,6 +1,6 @@
 //! SHA-256, by which the bytes that a cloud answers are verified.
 
-ghost use Rattle.std.specs.Prelude.{◌≡◌, length};
+ghost use Rattle.std.specs.Prelude.{◌≡◌};
 ghost use Rattle.sha2.specs.Sha256.{sha256};
 ghost use Rattle.hy_record.specs.Hash.{IsHash};
 

@@ -1,4 +1,4 @@
-//! What the store speaks of: timestamps, keys, and what a client asks and is told.
+//! What the store speaks of: timestamps, keys, records and their names, and what is asked and answered.
 #![tactic(auto)]
 
 mod action;
@@ -17,7 +17,9 @@ pub use key::{Key, KeyFault};
 pub use kind::Kind;
 pub use message::{MetaAsk, MetaSay};
 pub use name::{name_of, read_name};
-pub use record::{Record, RecordFault, record_spellings_are_apart, records_are_read_back};
+pub use record::{
+    Record, RecordFault, record_lists_a_quorum, record_spellings_are_apart, records_are_read_back,
+};
 pub use stamp::Stamp;
 pub use stamps::{MAX_STAMPS, Stamps};
 

@@ -16,7 +16,7 @@ pub struct Stamp {
 
 impl Model for Stamp {
     ghost use Rattle.std.specs.Prelude.{◌<◌};
-    ghost use Rattle.hy_record.specs.Stamp.{Timestamp, STAMP_END};
+    ghost use Rattle.hy_record.specs.Stamp.{Timestamp};
 
     ghost Value = { Timestamp };
 
