@@ -13,6 +13,8 @@ mod Spaced
 mod Lines
 mod Clouds
 mod Legal
+mod Illegal
+mod DueOrders
 mod Places
 mod Listed
 mod Verdicts

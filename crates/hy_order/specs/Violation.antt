@@ -9,6 +9,7 @@ use Rattle.hy_order.specs.declared.checking.Verdict.TheVariants.{Legal, Missing,
 use Rattle.hy_order.specs.declared.operation.End.{End}
 use Rattle.hy_order.specs.declared.operation.End.TheVariants.{Replied, Pending}
 use Rattle.hy_order.specs.declared.operation.Operation.{Operation}
+use Rattle.hy_order.specs.declared.order.Order.{Order}
 use Rattle.hy_order.specs.Linearization.{is_of_key, is_finished, may_be_listed, returned_before, register_after, operation_at, listed}
 
 -- the number stands in the list
@@ -77,3 +78,22 @@ first_violation history key order =
     (option_map_or Twice (repeated_number order)
     (option_map_or (λ (pair : ℕ × ℕ). Early pair.0 pair.1) (early_numbers (listed history order))
     (option_map_or Wrong (wrong_number None (listed history order)) Legal))))
+
+-- the verdict of an order without a violation
+abbrev pub is_legal : Verdict → Bool
+is_legal Legal = true
+is_legal (Missing number) = false
+is_legal (Stranger number) = false
+is_legal (Twice number) = false
+is_legal (Early earlier later) = false
+is_legal (Wrong number) = false
+
+-- the violation of an order, with its key; none of a legal one
+abbrev pub illegal_order : List ℕ → Verdict → Option (List ℕ × Verdict)
+illegal_order key verdict = if is_legal verdict then None else Some (key, verdict)
+
+-- the key of the first order that has a violation, and its first violation
+abbrev pub first_illegal : List Operation → List Order → Option (List ℕ × Verdict)
+first_illegal history [] = None
+first_illegal history (order ∷ orders) =
+    option_or (illegal_order order.key (first_violation history order.key order.ops)) (first_illegal history orders)

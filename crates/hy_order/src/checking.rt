@@ -27,6 +27,8 @@ ghost use Rattle.hy_order.specs.declared.operation.Operation.{Operation};
 ghost use Rattle.hy_order.specs.History.{IsNumberedFrom, key_of_action};
 ghost use Rattle.hy_order.specs.Linearization.{
   IsLinearization,
+  IsLinearized,
+  IsReportLinearizable,
   is_of_key,
   is_finished,
   is_finished_reply,
@@ -37,8 +39,10 @@ ghost use Rattle.hy_order.specs.Linearization.{
   listed,
 };
 ghost use Rattle.hy_order.specs.Checking.{early_part, return_step, unmarked_number, IsMarked};
+ghost use Rattle.hy_order.specs.ReportRanges.{IsReport};
 ghost use Rattle.hy_order.specs.Violation.{
   first_violation,
+  first_illegal,
   missing_number,
   is_member,
   stranger_number,
@@ -52,6 +56,7 @@ ghost use Rattle.hy_order.specs.Violation.{
 use crate::history::History;
 use crate::operation::{End, Operation};
 use crate::order::Order;
+use crate::report::Report;
 use hy_base::NoMemory;
 use hy_record::{Action, Key, Reply};
 use std::alloc::Global;
@@ -75,12 +80,50 @@ pub enum Verdict {
     Wrong(u32),
 }
 
+impl Verdict {
+    ghost use Rattle.hy_order.specs.Violation.{is_legal};
+
+    /// Whether it is the verdict on a linearization.
+    pub fn is_legal(&self) -> bool
+        ensures { result ≡ is_legal self.now }
+    {
+        matches!(self, Verdict::Legal)
+    }
+}
+
 /// The verdict on the order, in time linear in the history.
 pub fn check(alloc: Global, history: &History, order: &Order) -> Result<Verdict, NoMemory>
     ensures verdict { IfOk result (λ verdict. verdict ≡ first_violation history.now order.now.key order.now.ops) }
     ensures legal { IfOk result (λ verdict. (verdict ≡ Verdict.Legal) ↔ IsLinearization history.now order.now.key order.now.ops) }
 {
     verdict_on(alloc, history.items(), &order.key, order.ops.items())
+}
+
+/// The key of the first order of the report that is not legal, and the verdict on it.
+pub fn first_illegal(alloc: Global, report: &Report) -> Result<Option<(Key, Verdict)>, NoMemory>
+    ensures found { IfOk result (λ found. found ≡ first_illegal report.now.history report.now.orders) }
+    // There is none exactly where each order is a linearization.
+    ensures legal { IfOk result (λ found. (found ≡ None) ↔ AllByRecursion (IsLinearized report.now.history) report.now.orders) }
+    // In a report that can be read, each key of an operation has an order.
+    ensures linearizable { IsReport report.now → IfOk result (λ found. (found ≡ None) ↔ IsReportLinearizable report.now) }
+{
+    first_illegal_among(alloc, &report.history, report.orders.items())
+}
+
+fn first_illegal_among(
+    alloc: Global,
+    history: &History,
+    orders: &[Order],
+) -> Result<Option<(Key, Verdict)>, NoMemory>
+    ensures { IfOk result (λ found. found ≡ first_illegal history.now orders.now) }
+{
+    for order in orders {
+        let verdict = check(alloc, history, order)?;
+        if !verdict.is_legal() {
+            return Ok(Some((order.key, verdict)));
+        }
+    }
+    Ok(None)
 }
 
 /// An order has no violation exactly where it is a linearization.

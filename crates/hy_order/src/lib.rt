@@ -13,7 +13,7 @@ mod report;
 mod slots;
 mod writing;
 
-pub use checking::{Verdict, check, legal_exactly_for_linearizations};
+pub use checking::{Verdict, check, first_illegal, legal_exactly_for_linearizations};
 pub use held::{Held, HeldList};
 pub use history::History;
 pub use operation::{End, Operation};
