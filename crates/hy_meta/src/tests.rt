@@ -61,6 +61,16 @@ fn sessions_full(rt: HostRuntime) -> Result<(), Fail> {
     Ok(())
 }
 
+/// The watch of client 7 for a record above the timestamp, as its operation of this number.
+fn watch(op: u32, at: &Key, above: Stamp) -> MetaAsk {
+    MetaAsk::Watch {
+        client: 7,
+        op,
+        key: *at,
+        stamp: above,
+    }
+}
+
 #[test]
 fn watches_fire_when_they_are_due(rt: HostRuntime) -> Result<(), Fail> {
     let alloc = rt.alloc();
@@ -68,13 +78,6 @@ fn watches_fire_when_they_are_due(rt: HostRuntime) -> Result<(), Fail> {
     let (a, b) = (key("a")?, key("b")?);
     let zero = Stamp::zero();
     let one = stamp(1, 1)?;
-    let two = stamp(2, 1)?;
-    let watch = |op: u32, at: &Key, above: Stamp| MetaAsk::Watch {
-        client: 7,
-        op,
-        key: *at,
-        stamp: above,
-    };
     // It waits, and a key of its own fires it.
     assert_eq!(rt; told(&mut service, alloc, &watch(1, &a, zero))?.len(), 0);
     assert!(rt;
@@ -89,7 +92,20 @@ fn watches_fire_when_they_are_due(rt: HostRuntime) -> Result<(), Fail> {
     assert!(rt;
         told(&mut service, alloc, &watch(4, &a, zero))?.as_slice() == [(b'f', 4, zero)].as_slice()
     );
-    // One that is served twice fires twice, once for each.
+    Ok(())
+}
+
+#[test]
+fn a_watch_that_is_served_twice_fires_twice(rt: HostRuntime) -> Result<(), Fail> {
+    let alloc = rt.alloc();
+    let mut service = Service::new(alloc).ok().ok_or("a service")?;
+    let a = key("a")?;
+    let one = stamp(1, 1)?;
+    let two = stamp(2, 1)?;
+    assert_eq!(rt;
+        told(&mut service, alloc, &update(alloc, 4, &a, 1, 1)?)?.len(),
+        1
+    );
     assert_eq!(rt; told(&mut service, alloc, &watch(5, &a, one))?.len(), 0);
     assert_eq!(rt; told(&mut service, alloc, &watch(6, &a, one))?.len(), 0);
     assert_eq!(rt; told(&mut service, alloc, &watch(5, &a, one))?.len(), 0);
@@ -111,51 +127,67 @@ fn watches_fire_when_they_are_due(rt: HostRuntime) -> Result<(), Fail> {
     Ok(())
 }
 
-#[test]
-fn superseded_timestamps_are_listed_and_forgotten(rt: HostRuntime) -> Result<(), Fail> {
-    let alloc = rt.alloc();
+/// A service whose record of the key has the timestamp 300 1, the last of as many updates.
+fn updated(alloc: Global, at: &Key) -> Result<Service, Fail> {
     let mut service = Service::new(alloc).ok().ok_or("a service")?;
-    let a = key("a")?;
-    assert!(rt; service.current(&a).is_none());
     for sn in 1..301u32 {
-        let says = service
-            .serve(alloc, &update(alloc, sn, &a, sn, 1)?)
+        service
+            .serve(alloc, &update(alloc, sn, at, sn, 1)?)
             .ok()
             .ok_or("an answer")?;
-        assert_eq!(rt; says.len(), 1);
     }
-    match service.current(&a) {
-        Some(record) => assert!(rt; record.stamp() == stamp(300, 1)?),
-        None => assert!(rt; false, "a record"),
+    Ok(service)
+}
+
+/// The list of superseded timestamps that the service answers.
+fn olds(service: &mut Service, alloc: Global, at: &Key) -> Result<Vec<Stamp>, Fail> {
+    let ask = MetaAsk::Olds {
+        client: 1,
+        op: 1,
+        key: *at,
+    };
+    let says = service.serve(alloc, &ask).ok().ok_or("the list")?;
+    let mut listed = Vec::new(alloc);
+    for say in &says {
+        if let MetaSay::OldList { stamps, .. } = say {
+            listed.extend_from_slice(stamps.items())?;
+        }
     }
-    let first = stamp(1, 1)?;
+    Ok(listed)
+}
+
+#[test]
+fn superseded_timestamps_are_listed(rt: HostRuntime) -> Result<(), Fail> {
+    let alloc = rt.alloc();
+    let a = key("a")?;
     assert!(rt;
-        service.is_old(&a, first)
+        Service::new(alloc)
+            .ok()
+            .ok_or("a service")?
+            .current(&a)
+            .is_none()
+    );
+    let mut service = updated(alloc, &a)?;
+    let record = service.current(&a).ok_or("a record")?;
+    assert!(rt; record.stamp() == stamp(300, 1)?);
+    assert!(rt;
+        service.is_old(&a, stamp(1, 1)?)
             && service.is_old(&a, stamp(299, 1)?)
             && !service.is_old(&a, stamp(300, 1)?)
     );
-    let says = service
-        .serve(
-            alloc,
-            &MetaAsk::Olds {
-                client: 1,
-                op: 1,
-                key: a,
-            },
-        )
-        .ok()
-        .ok_or("the list")?;
-    let mut listed = 0usize;
-    for say in &says {
-        if let MetaSay::OldList { stamps, .. } = say {
-            listed = stamps.items().len();
-            assert!(rt; stamps.items().first().copied() == Some(first));
-            assert!(rt; stamps.items().last().copied() == Some(stamp(256, 1)?));
-        }
-    }
-    assert_eq!(rt; listed, 256);
+    let listed = olds(&mut service, alloc, &a)?;
+    assert_eq!(rt; listed.len(), 256);
+    assert!(rt; listed.first().copied() == Some(stamp(1, 1)?));
+    assert!(rt; listed.last().copied() == Some(stamp(256, 1)?));
+    Ok(())
+}
 
-    // A forgotten timestamp becomes old again by an update that is refused.
+#[test]
+fn a_forgotten_timestamp_becomes_old_again(rt: HostRuntime) -> Result<(), Fail> {
+    let alloc = rt.alloc();
+    let a = key("a")?;
+    let first = stamp(1, 1)?;
+    let mut service = updated(alloc, &a)?;
     let forget = MetaAsk::Forget {
         client: 1,
         op: 2,
@@ -166,20 +198,17 @@ fn superseded_timestamps_are_listed_and_forgotten(rt: HostRuntime) -> Result<(),
         told(&mut service, alloc, &forget)?.as_slice() == [(b'o', 2, Stamp::zero())].as_slice()
     );
     assert!(rt; !service.is_old(&a, first));
+    // An update that is refused makes it old.
     assert!(rt;
         told(&mut service, alloc, &update(alloc, 3, &a, 1, 1)?)?.as_slice()
             == [(b'k', 3, stamp(300, 1)?)].as_slice()
     );
     assert!(rt; service.is_old(&a, first));
-    let read = told(
-        &mut service,
-        alloc,
-        &MetaAsk::Read {
-            client: 1,
-            op: 4,
-            key: a,
-        },
-    )?;
-    assert_eq!(rt; read.len(), 1);
+    let read = MetaAsk::Read {
+        client: 1,
+        op: 4,
+        key: a,
+    };
+    assert_eq!(rt; told(&mut service, alloc, &read)?.len(), 1);
     Ok(())
 }

@@ -9,7 +9,7 @@ pub mod DueKeys
 pub mod WordRows
 pub mod CloudWords
 pub mod Fronts
-mod Spaced
+pub mod Spaced
 mod Lines
 mod Clouds
 mod Legal

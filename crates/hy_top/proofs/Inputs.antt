@@ -7,7 +7,7 @@ use Rattle.hy_base.specs.declared.limits.TheConstants.{MAX_INPUT}
 use Rattle.hy_base.specs.declared.reading.ReadAllFault.{ReadAllFault}
 use Rattle.hy_base.specs.declared.reading.ReadAllFault.TheVariants.{ReadFault, TooLong, NoMemory}
 use Rattle.hy_top.specs.Call.{InputUse}
-use Rattle.hy_top.specs.Outcome.{IsInput}
+use Rattle.hy_top.specs.Input.{IsInput}
 
 not_longer : (limit size : ℕ) → (limit < size → ⊥) → size ≤ limit
 not_longer limit size short = omega arith

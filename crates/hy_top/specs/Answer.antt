@@ -5,7 +5,7 @@ use Rattle.hy_base.specs.Sink.{Appends, AppendsFront}
 use Rattle.hy_top.specs.Call.{InputUse, OutputUse}
 use Rattle.hy_top.specs.Outcome.{ComesTo, text_due, status_due}
 use Rattle.hy_top.specs.declared.status.Status.{Status}
-use Rattle.hy_top.specs.declared.status.Status.TheVariants.{Done, BadInput, BadWords, ReadFault, WriteFault, NoMemory, TooLong}
+use Rattle.hy_top.specs.declared.status.Status.TheVariants.{Done, BadInput, BadWords, ReadFault, WriteFault, NoMemory, TooLong, Illegal}
 use Rattle.hy_top.specs.declared.outcome.Outcome.{Outcome}
 use Rattle.hy_top.specs.declared.outcome.Outcome.TheVariants as outcome
 
@@ -31,6 +31,7 @@ IsTold what output (BadInput fault) = (status_due what ≡ BadInput fault) × Is
 IsTold what output BadWords = (status_due what ≡ BadWords) × IsWritten what output
 IsTold what output ReadFault = (status_due what ≡ ReadFault) × IsWritten what output
 IsTold what output TooLong = (status_due what ≡ TooLong) × IsWritten what output
+IsTold what output (Illegal key verdict) = (status_due what ≡ Illegal key verdict) × IsWritten what output
 
 -- the words and the input came to this outcome, and its text was written
 abbrev pub Tells : List (List ℕ) → InputUse → OutputUse → Outcome → Type 0
@@ -38,10 +39,11 @@ Tells words input output what = ComesTo words input what × IsWritten what outpu
 
 -- what the status of a call says; want of memory may come at any time
 abbrev pub Answers : List (List ℕ) → InputUse → OutputUse → Status → Type 0
-Answers words input output Done = (report : List ℕ) × Tells words input output (outcome.Done report)
+Answers words input output Done = (text : List ℕ) × Tells words input output (outcome.Done text)
 Answers words input output (BadInput fault) = Tells words input output (outcome.BadInput fault)
 Answers words input output BadWords = Tells words input output outcome.BadWords
 Answers words input output ReadFault = Tells words input output outcome.ReadFault
 Answers words input output TooLong = Tells words input output outcome.TooLong
+Answers words input output (Illegal key verdict) = Tells words input output (outcome.Illegal key verdict)
 Answers words input output WriteFault = (what : Outcome) × ComesTo words input what × IsBrokenOff what output
 Answers words input output NoMemory = IsUnwritten output

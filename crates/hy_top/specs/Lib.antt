@@ -1,5 +1,9 @@
 pub mod Status
 pub mod Command
 pub mod Call
+pub mod Input
+pub mod Replay
+pub mod Line
+pub mod Check
 pub mod Outcome
 pub mod Answer

@@ -2,6 +2,8 @@
 #![tactic(auto)]
 
 mod command;
+mod job;
+mod line;
 mod outcome;
 mod status;
 mod top;

@@ -3,9 +3,11 @@
 ghost use Rattle.std.specs.Prelude.{◌≡◌, IfOk};
 ghost use Rattle.hy_top.specs.Outcome.{text_due, status_due};
 
+use crate::line::{bad_input_line, illegal_line};
 use crate::status::Status;
 use hy_base::{Blob, NoMemory, TextFault};
-use hy_text::{cause_name, push_number};
+use hy_order::Verdict;
+use hy_record::Key;
 use std::alloc::Global;
 
 /// What a job comes to: a refusal, or its output.
@@ -19,6 +21,8 @@ pub enum Outcome {
     TooLong,
     /// The input is not in the grammar.
     BadInput(TextFault),
+    /// The report has an illegal order: the key of the first, and the verdict on it.
+    Illegal(Key, Verdict),
     /// The job is done, with this output.
     Done(Blob),
 }
@@ -33,6 +37,7 @@ impl Outcome {
             Outcome::ReadFault => Status::ReadFault,
             Outcome::TooLong => Status::TooLong,
             Outcome::BadInput(fault) => Status::BadInput(*fault),
+            Outcome::Illegal(key, verdict) => Status::Illegal(*key, *verdict),
             Outcome::Done(_) => Status::Done,
         }
     }
@@ -46,19 +51,8 @@ impl Outcome {
             Outcome::ReadFault => Blob::copy_of(alloc, b"read fault\n"),
             Outcome::TooLong => Blob::copy_of(alloc, b"too long\n"),
             Outcome::BadInput(fault) => bad_input_line(alloc, fault),
+            Outcome::Illegal(key, verdict) => illegal_line(alloc, &key, verdict),
             Outcome::Done(output) => Ok(output),
         }
     }
-}
-
-/// The line that names the first bad line of an input.
-fn bad_input_line(alloc: Global, fault: TextFault) -> Result<Blob, NoMemory>
-    ensures { IfOk result (λ text. text ≡ text_due (Outcome.BadInput fault)) }
-{
-    let mut line = Vec::from_slice(alloc, b"bad input ")?;
-    push_number(&mut line, fault.line.into())?;
-    line.push(b' ')?;
-    line.extend_from_slice(cause_name(fault.cause).as_bytes())?;
-    line.push(b'\n')?;
-    Ok(Blob::of(line))
 }

@@ -3,6 +3,8 @@
 ghost use Rattle.std.specs.Prelude.{◌≡◌};
 
 use hy_base::TextFault;
+use hy_order::Verdict;
+use hy_record::Key;
 
 /// How a run of the program ends. Each but Done, WriteFault and NoMemory wrote a line that tells it.
 #[derive(Clone, Copy, Debug, PartialEq, Eq)]
@@ -21,6 +23,8 @@ pub enum Status {
     NoMemory,
     /// The input has more than 16,777,216 bytes.
     TooLong,
+    /// The report has an illegal order: the key of the first, and the verdict on it.
+    Illegal(Key, Verdict),
 }
 
 impl Status {
@@ -38,6 +42,7 @@ impl Status {
             Status::WriteFault => 5,
             Status::NoMemory => 7,
             Status::TooLong => 8,
+            Status::Illegal(..) => 9,
         }
     }
 }

@@ -1,5 +1,7 @@
 use super::*;
 use hy_base::{Blob, BytesIn, BytesOut, Cause, MAX_INPUT, TextFault};
+use hy_order::Verdict;
+use hy_record::Key;
 use std::alloc::Global;
 use std::test::Fail;
 
@@ -58,6 +60,27 @@ fn replay_of(text: &'static str, status: Status, written: &'static str) -> Row {
     call_of(&["replay"], text, status, written)
 }
 
+/// A check of this text, where no read and no write fails.
+fn check_of(text: &'static str, status: Status, written: &'static str) -> Row {
+    call_of(&["check"], text, status, written)
+}
+
+/// The status of a report whose first illegal order is of this key.
+fn illegal(key: &str, verdict: Verdict) -> Result<Status, Fail> {
+    let key = Key::read(key.as_bytes()).ok().ok_or("a key")?;
+    Ok(Status::Illegal(key, verdict))
+}
+
+/// Makes the calls, each of which has to answer and to write what its row tells.
+fn all_answer(rt: HostRuntime, rows: &[Row]) -> Result<(), Fail> {
+    for row in rows {
+        let (status, written) = row.answer(rt.alloc())?;
+        assert_eq!(rt; status, row.status);
+        assert_eq!(rt; written.as_str(), row.written);
+    }
+    Ok(())
+}
+
 /// The status of an input whose first bad line is this one.
 fn bad_input(line: u32, cause: Cause) -> Status {
     Status::BadInput(TextFault { line, cause })
@@ -74,6 +97,9 @@ const GET_OF_ABSENT_KEY: &str = "hybris 1 f 0 k 1 liars -\nopen\ndo 1 get a\n";
 
 const BAD_HEX: &str = "hybris 1 f 0 k 1 liars -\ndo 1 put a 6\n";
 
+const TWO_PUTS_SWAPPED: &str =
+    "op 1 1 put a 01 1 2 done 1 1\nop 2 2 put a 02 3 4 done 2 2\norder a 2 1\nend 2 1\n";
+
 #[test]
 fn worked_replays_answer_as_they_should(rt: HostRuntime) -> Result<(), Fail> {
     let none = "op 1 1 get a 2 4 none 0 0\norder a 1\nend 1 1\n";
@@ -85,22 +111,99 @@ fn worked_replays_answer_as_they_should(rt: HostRuntime) -> Result<(), Fail> {
     longest.line_feeds = MAX_INPUT as usize;
     let mut too_long = replay_of("", Status::TooLong, "too long\n");
     too_long.line_feeds = MAX_INPUT as usize + 1;
-    for row in [
-        replay_of(PUT_THEN_GET, Status::Done, ITS_REPORT),
-        replay_of(EMPTY, Status::Done, "end 0 0\n"),
-        replay_of(GET_OF_ABSENT_KEY, Status::Done, none),
-        replay_of(BAD_HEX, bad_input(2, Cause::BadHex), "bad input 2 BadHex\n"),
-        replay_of("", bad_input(1, Cause::NoHeader), "bad input 1 NoHeader\n"),
-        failing_read,
-        failing_write,
-        longest,
-        too_long,
-    ] {
-        let (status, written) = row.answer(rt.alloc())?;
-        assert_eq!(rt; status, row.status);
-        assert_eq!(rt; written.as_str(), row.written);
-    }
-    Ok(())
+    all_answer(
+        rt,
+        &[
+            replay_of(PUT_THEN_GET, Status::Done, ITS_REPORT),
+            replay_of(EMPTY, Status::Done, "end 0 0\n"),
+            replay_of(GET_OF_ABSENT_KEY, Status::Done, none),
+            replay_of(BAD_HEX, bad_input(2, Cause::BadHex), "bad input 2 BadHex\n"),
+            replay_of("", bad_input(1, Cause::NoHeader), "bad input 1 NoHeader\n"),
+            failing_read,
+            failing_write,
+            longest,
+            too_long,
+        ],
+    )
+}
+
+#[test]
+fn worked_checks_answer_as_they_should(rt: HostRuntime) -> Result<(), Fail> {
+    let early = illegal("a", Verdict::Early(1, 2))?;
+    let mut failing_read = check_of(ITS_REPORT, Status::ReadFault, "read fault\n");
+    failing_read.failing_read = 1;
+    let mut failing_write = check_of(TWO_PUTS_SWAPPED, Status::WriteFault, "");
+    failing_write.failing_write = 1;
+    let mut longest = check_of("", bad_input(1, Cause::BadWord), "bad input 1 BadWord\n");
+    longest.line_feeds = MAX_INPUT as usize;
+    let mut too_long = check_of("", Status::TooLong, "too long\n");
+    too_long.line_feeds = MAX_INPUT as usize + 1;
+    all_answer(
+        rt,
+        &[
+            check_of(ITS_REPORT, Status::Done, "legal 1\n"),
+            check_of("end 0 0\n", Status::Done, "legal 0\n"),
+            check_of(TWO_PUTS_SWAPPED, early, "illegal a early 1 2\n"),
+            check_of("", bad_input(1, Cause::NoEnd), "bad input 1 NoEnd\n"),
+            check_of(
+                PUT_THEN_GET,
+                bad_input(1, Cause::BadWord),
+                "bad input 1 BadWord\n",
+            ),
+            failing_read,
+            failing_write,
+            longest,
+            too_long,
+        ],
+    )
+}
+
+#[test]
+fn each_verdict_is_told(rt: HostRuntime) -> Result<(), Fail> {
+    all_answer(
+        rt,
+        &[
+            check_of(
+                "op 1 1 put a 01 1 2 done 1 1\nop 2 2 put a 02 3 4 done 2 2\norder a 1\nend 2 1\n",
+                illegal("a", Verdict::Missing(2))?,
+                "illegal a missing 2\n",
+            ),
+            check_of(
+                "op 1 1 put a 01 1 2 done 1 1\nop 2 2 get a 3 - read 0 1\norder a 1 2\nend 2 1\n",
+                illegal("a", Verdict::Stranger(2))?,
+                "illegal a stranger 2\n",
+            ),
+            check_of(
+                "op 1 1 put a 01 1 2 done 1 1\nop 2 2 put a 02 3 4 done 2 2\norder a 1 2 1\nend 2 1\n",
+                illegal("a", Verdict::Twice(1))?,
+                "illegal a twice 1\n",
+            ),
+            check_of(
+                "op 1 1 put a 01 1 2 done 1 1\nop 2 2 get a 3 4 value 02 1 1\norder a 1 2\nend 2 1\n",
+                illegal("a", Verdict::Wrong(2))?,
+                "illegal a wrong 2\n",
+            ),
+        ],
+    )
+}
+
+#[test]
+fn the_first_illegal_order_is_told(rt: HostRuntime) -> Result<(), Fail> {
+    all_answer(
+        rt,
+        &[
+            check_of(
+                "op 1 1 put a 01 1 2 done 1 1\nop 2 2 put b 02 3 4 done 1 2\norder a 1\norder b\nend 2 2\n",
+                illegal("b", Verdict::Missing(2))?,
+                "illegal b missing 2\n",
+            ),
+            check_of(
+                "op 1 1 put b 01 1 2 done 1 1\nop 2 2 put a 02 3 4 done 1 2\norder a\norder b\nend 2 2\n",
+                illegal("a", Verdict::Missing(2))?,
+                "illegal a missing 2\n",
+            ),
+        ],
+    )
 }
 
 #[test]
@@ -111,6 +214,9 @@ fn other_words_are_refused_and_read_nothing(rt: HostRuntime) -> Result<(), Fail>
         &["replay", "replay"],
         &["--help"],
         &["replay "],
+        &["check", "check"],
+        &["replay", "check"],
+        &["Check"],
     ] {
         let mut row = call_of(words, PUT_THEN_GET, Status::BadWords, "bad words\n");
         row.failing_read = 1;
@@ -122,7 +228,7 @@ fn other_words_are_refused_and_read_nothing(rt: HostRuntime) -> Result<(), Fail>
 }
 
 #[test]
-fn statuses_have_their_codes(rt: HostRuntime) {
+fn statuses_have_their_codes(rt: HostRuntime) -> Result<(), Fail> {
     let fault = TextFault {
         line: 1,
         cause: Cause::NoHeader,
@@ -135,7 +241,9 @@ fn statuses_have_their_codes(rt: HostRuntime) {
         (Status::WriteFault, 5),
         (Status::NoMemory, 7),
         (Status::TooLong, 8),
+        (illegal("a", Verdict::Wrong(1))?, 9),
     ] {
         assert_eq!(rt; status.code(), code);
     }
+    Ok(())
 }

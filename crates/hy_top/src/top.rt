@@ -3,17 +3,15 @@
 ghost use Rattle.std.specs.Prelude.{◌≡◌, ◌≤◌, IfOk, map};
 ghost use Rattle.std.specs.String.{string_bytes};
 ghost use Rattle.hy_top.specs.Answer.{Answers, IsTold};
-ghost use Rattle.hy_top.specs.Command.{AsksReplay};
-ghost use Rattle.hy_top.specs.Outcome.{ComesTo, IsInput, Replays};
+ghost use Rattle.hy_top.specs.Command.{IsCommand};
+ghost use Rattle.hy_top.specs.Input.{IsInput};
+ghost use Rattle.hy_top.specs.Outcome.{ComesTo};
 
-use crate::command::asks_replay;
+use crate::command::command_of;
+use crate::job::outcome_on;
 use crate::outcome::Outcome;
 use crate::status::Status;
-use hy_base::{
-    Blob, MAX_INPUT, NoMemory, ReadAllFault, Sink, Source, TextError, read_all, write_all,
-};
-use hy_order::write_report;
-use hy_quiet::{quiet_orders_are_linearizable, read_schedule, replay};
+use hy_base::{Blob, MAX_INPUT, NoMemory, ReadAllFault, Sink, Source, read_all, write_all};
 use std::alloc::Global;
 
 /// Does the job that the words ask for, over this input and output, and tells how it went.
@@ -39,7 +37,7 @@ pub fn run<S: Source, K: Sink>(
           faults_after = K.faults output.new;
         })
         result }
-    ensures unread { ¬ AsksReplay (map string_bytes words.now.items) → input.new ≡ input.old }
+    ensures unread { ¬ IsCommand (map string_bytes words.now.items) → input.new ≡ input.old }
     ensures reads { S.faults input.old ≤ S.faults input.new }
     ensures writes { K.faults output.old ≤ K.faults output.new }
 {
@@ -61,14 +59,14 @@ fn outcome_of<S: Source>(
       faults_before = S.faults input.old;
       faults_after = S.faults input.new;
     })) }
-    ensures unread { ¬ AsksReplay (map string_bytes words.now) → input.new ≡ input.old }
+    ensures unread { ¬ IsCommand (map string_bytes words.now) → input.new ≡ input.old }
     ensures reads { S.faults input.old ≤ S.faults input.new }
 {
-    if !asks_replay(words) {
+    let Some(command) = command_of(words) else {
         return Ok(Outcome::BadWords);
-    }
+    };
     match read_input(alloc, input) {
-        Ok(text) => replay_text(alloc, text),
+        Ok(text) => outcome_on(alloc, command, text),
         Err(ReadAllFault::ReadFault) => Ok(Outcome::ReadFault),
         Err(ReadAllFault::TooLong) => Ok(Outcome::TooLong),
         Err(ReadAllFault::NoMemory) => Err(NoMemory),
@@ -86,21 +84,6 @@ fn read_input<S: Source>(alloc: Global, input: &mut S) -> Result<Blob, ReadAllFa
     ensures reads { S.faults input.old ≤ S.faults input.new }
 {
     read_all(alloc, input, MAX_INPUT)
-}
-
-/// The report of the schedule that the text is.
-fn replay_text(alloc: Global, text: Blob) -> Result<Outcome, NoMemory>
-    ensures { IfOk result (Replays text) }
-{
-    let events = match read_schedule(alloc, text.bytes()) {
-        Ok(events) => events,
-        Err(TextError::Fault(fault)) => return Ok(Outcome::BadInput(fault)),
-        Err(TextError::NoMemory) => return Err(NoMemory),
-    };
-    drop(text);
-    quiet_orders_are_linearizable();
-    let report = replay(alloc, events.into_items())?;
-    Ok(Outcome::Done(write_report(alloc, &report)?))
 }
 
 /// Writes the text that tells the outcome.

@@ -77,42 +77,37 @@ fn first_line_is_judged_first(rt: HostRuntime) {
     }
 }
 
+/// Lines behind a header, the first bad line of the text, and its cause.
+const FAULTS: [(&[u8], u32, Cause); 24] = [
+    (b"open\nfly\nopen\n", 3, Cause::BadWord),
+    (b"open\n\nopen\n", 3, Cause::BadWord),
+    (b"open\nstop 1\nfly\n", 3, Cause::BadWord),
+    (b"open\nopen\ndo 1 delete a\n", 4, Cause::BadWord),
+    (b"do 1\nopen\n", 2, Cause::BadWord),
+    (b"open\ndo 0 put a 01\nopen\n", 3, Cause::BadNumber),
+    (b"open\ndo 4097 get a\nopen\n", 3, Cause::BadNumber),
+    (b"open\ndo 01 get a\nopen\n", 3, Cause::BadNumber),
+    (b"open\ndo\nopen\n", 3, Cause::BadNumber),
+    (b"open\ndo  1 get a\nopen\n", 3, Cause::BadNumber),
+    (b"open\ndo 1 get A\nopen\n", 3, Cause::BadKey),
+    (b"open\ndo 1 put \nopen\n", 3, Cause::BadKey),
+    (b"open\ndo 1 put a 6\nopen\n", 3, Cause::BadHex),
+    (b"open\ndo 1 put a 6A\nopen\n", 3, Cause::BadHex),
+    (b"open\ndo 1 put a\nopen\n", 3, Cause::BadHex),
+    (b"open\nopen \nopen\n", 3, Cause::Extra),
+    (b"open\ndo 1 get a 01\nopen\n", 3, Cause::Extra),
+    (b"open\ndo 1 put a 01 \nopen\n", 3, Cause::Extra),
+    (b"open\ndo 1 get a\nopen", 4, Cause::NoLineEnd),
+    (b"open\ndo 0 set A 6 x\n", 3, Cause::BadNumber),
+    (b"open\ndo 1 set A 6 x\n", 3, Cause::BadWord),
+    (b"open\ndo 1 put A 6 x\n", 3, Cause::BadKey),
+    (b"open\ndo 1 put a 6 x", 3, Cause::BadHex),
+    (b"open\ndo 1 put a 06 x", 3, Cause::Extra),
+];
+
 #[test]
 fn first_bad_line_is_named(rt: HostRuntime) -> Result<(), Fail> {
-    for (lines, line, cause) in [
-        (b"open\nfly\nopen\n".as_slice(), 3, Cause::BadWord),
-        (b"open\n\nopen\n".as_slice(), 3, Cause::BadWord),
-        (b"open\nstop 1\nfly\n".as_slice(), 3, Cause::BadWord),
-        (b"open\nopen\ndo 1 delete a\n".as_slice(), 4, Cause::BadWord),
-        (b"do 1\nopen\n".as_slice(), 2, Cause::BadWord),
-        (
-            b"open\ndo 0 put a 01\nopen\n".as_slice(),
-            3,
-            Cause::BadNumber,
-        ),
-        (
-            b"open\ndo 4097 get a\nopen\n".as_slice(),
-            3,
-            Cause::BadNumber,
-        ),
-        (b"open\ndo 01 get a\nopen\n".as_slice(), 3, Cause::BadNumber),
-        (b"open\ndo\nopen\n".as_slice(), 3, Cause::BadNumber),
-        (b"open\ndo  1 get a\nopen\n".as_slice(), 3, Cause::BadNumber),
-        (b"open\ndo 1 get A\nopen\n".as_slice(), 3, Cause::BadKey),
-        (b"open\ndo 1 put \nopen\n".as_slice(), 3, Cause::BadKey),
-        (b"open\ndo 1 put a 6\nopen\n".as_slice(), 3, Cause::BadHex),
-        (b"open\ndo 1 put a 6A\nopen\n".as_slice(), 3, Cause::BadHex),
-        (b"open\ndo 1 put a\nopen\n".as_slice(), 3, Cause::BadHex),
-        (b"open\nopen \nopen\n".as_slice(), 3, Cause::Extra),
-        (b"open\ndo 1 get a 01\nopen\n".as_slice(), 3, Cause::Extra),
-        (b"open\ndo 1 put a 01 \nopen\n".as_slice(), 3, Cause::Extra),
-        (b"open\ndo 1 get a\nopen".as_slice(), 4, Cause::NoLineEnd),
-        (b"open\ndo 0 set A 6 x\n".as_slice(), 3, Cause::BadNumber),
-        (b"open\ndo 1 set A 6 x\n".as_slice(), 3, Cause::BadWord),
-        (b"open\ndo 1 put A 6 x\n".as_slice(), 3, Cause::BadKey),
-        (b"open\ndo 1 put a 6 x".as_slice(), 3, Cause::BadHex),
-        (b"open\ndo 1 put a 06 x".as_slice(), 3, Cause::Extra),
-    ] {
+    for (lines, line, cause) in FAULTS {
         let mut text = Vec::from_slice(rt.alloc(), HEADER)?;
         text.extend_from_slice(lines)?;
         assert_eq!(rt;

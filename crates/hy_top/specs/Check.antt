@@ -1,0 +1,43 @@
+-- What the check of a text comes to.
+use Rattle.std.specs.Prelude.{◌≡◌, ℕ, List, Some, Err, length}
+use Rattle.hy_base.specs.declared.fault.TextFault.{TextFault}
+use Rattle.hy_order.specs.Linearization.{IsReportLinearizable}
+use Rattle.hy_order.specs.Report.{report_text}
+use Rattle.hy_order.specs.ReportRanges.{IsReport}
+use Rattle.hy_order.specs.ReportReading.{report_of}
+use Rattle.hy_order.specs.Violation.{first_illegal}
+use Rattle.hy_order.specs.declared.checking.Verdict.{Verdict}
+use Rattle.hy_order.specs.declared.report.Report.{Report}
+use Rattle.hy_top.specs.Line.{legal_line}
+use Rattle.hy_top.specs.declared.outcome.Outcome.{Outcome}
+use Rattle.hy_top.specs.declared.outcome.Outcome.TheVariants.{BadWords, ReadFault, TooLong, BadInput, Illegal, Done}
+
+-- the text is that of a report in which each order is linearizable; the output tells how many orders there are
+pub record IsFoundLegal (text output : List ℕ) : Type 0 where
+  pub report : Report
+  pub ranges : IsReport report
+  pub spelled : text ≡ report_text report
+  pub linearizable : IsReportLinearizable report
+  pub told : output ≡ legal_line (length report.orders)
+
+-- the text is that of a report that is not linearizable; its first illegal order is of this key and has this verdict
+pub record IsFoundIllegal (text key : List ℕ) (verdict : Verdict) : Type 0 where
+  pub report : Report
+  pub ranges : IsReport report
+  pub spelled : text ≡ report_text report
+  pub first : first_illegal report.history report.orders ≡ Some (key, verdict)
+  pub other : ¬ IsReportLinearizable report
+
+-- the text is that of no report, and this is its first fault
+pub record IsNoReport (text : List ℕ) (fault : TextFault) : Type 0 where
+  pub first : report_of text ≡ Err fault
+  pub other : (report : Report) → IsReport report → text ≡ report_text report → ⊥
+
+-- what the check of a text comes to
+abbrev pub Checks : List ℕ → Outcome → Type 0
+Checks text (Done output) = IsFoundLegal text output
+Checks text (Illegal key verdict) = IsFoundIllegal text key verdict
+Checks text (BadInput fault) = IsNoReport text fault
+Checks text BadWords = ⊥
+Checks text ReadFault = ⊥
+Checks text TooLong = ⊥

@@ -1,0 +1,29 @@
+-- The lines that tell an outcome.
+use Rattle.std.specs.Prelude.{ℕ, List, [], ◌∷◌, codes}
+use Rattle.std.specs.Fmt.{decimal}
+use Rattle.hy_base.specs.declared.fault.TextFault.{TextFault}
+use Rattle.hy_text.specs.Cause.{cause_word}
+use Rattle.hy_text.specs.Line.{line_text}
+use Rattle.hy_order.specs.declared.checking.Verdict.{Verdict}
+use Rattle.hy_order.specs.declared.checking.Verdict.TheVariants.{Legal, Missing, Stranger, Twice, Early, Wrong}
+
+-- the first bad line of an input, and its cause
+abbrev pub bad_input_line : TextFault → List ℕ
+bad_input_line fault = line_text (codes "bad" ∷ codes "input" ∷ decimal fault.line ∷ cause_word fault.cause ∷ [])
+
+-- how many orders a report has, all of them legal
+abbrev pub legal_line : ℕ → List ℕ
+legal_line count = line_text (codes "legal" ∷ decimal count ∷ [])
+
+-- the words that tell a verdict
+abbrev pub verdict_words : Verdict → List (List ℕ)
+verdict_words Legal = codes "legal" ∷ []
+verdict_words (Missing number) = codes "missing" ∷ decimal number ∷ []
+verdict_words (Stranger number) = codes "stranger" ∷ decimal number ∷ []
+verdict_words (Twice number) = codes "twice" ∷ decimal number ∷ []
+verdict_words (Early earlier later) = codes "early" ∷ decimal earlier ∷ decimal later ∷ []
+verdict_words (Wrong number) = codes "wrong" ∷ decimal number ∷ []
+
+-- the key of the first illegal order of a report, and the verdict on it
+abbrev pub illegal_line : List ℕ → Verdict → List ℕ
+illegal_line key verdict = line_text (codes "illegal" ∷ key ∷ verdict_words verdict)

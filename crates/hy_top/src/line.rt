@@ -1,0 +1,86 @@
+//! The lines that tell an outcome.
+
+ghost use Rattle.std.specs.Prelude.{◌≡◌, ◌∷◌, [], ◌++◌, IfOk, OnOk};
+ghost use Rattle.std.specs.Fmt.{decimal};
+ghost use Rattle.hy_order.specs.Words.{spaced};
+ghost use Rattle.hy_top.specs.Line.{bad_input_line, legal_line, illegal_line, verdict_words};
+
+use hy_base::{Blob, NoMemory, TextFault};
+use hy_order::Verdict;
+use hy_record::Key;
+use hy_text::{cause_name, push_number};
+use std::alloc::Global;
+
+/// The line that names the first bad line of an input.
+pub fn bad_input_line(alloc: Global, fault: TextFault) -> Result<Blob, NoMemory>
+    ensures { IfOk result (λ text. text ≡ bad_input_line fault) }
+{
+    let mut line = Vec::from_slice(alloc, b"bad input")?;
+    push_number_word(&mut line, fault.line.into())?;
+    line.push(b' ')?;
+    line.extend_from_slice(cause_name(fault.cause).as_bytes())?;
+    line.push(b'\n')?;
+    Ok(Blob::of(line))
+}
+
+/// The line that tells how many orders a report has, all of them legal.
+pub fn legal_line(alloc: Global, count: usize) -> Result<Blob, NoMemory>
+    ensures { IfOk result (λ text. text ≡ legal_line count) }
+{
+    let mut line = Vec::from_slice(alloc, b"legal")?;
+    push_number_word(&mut line, count as u64)?;
+    line.push(b'\n')?;
+    Ok(Blob::of(line))
+}
+
+/// The line that names the first illegal order of a report and what is wrong with it.
+pub fn illegal_line(alloc: Global, key: &Key, verdict: Verdict) -> Result<Blob, NoMemory>
+    ensures { IfOk result (λ text. text ≡ illegal_line key.now verdict) }
+{
+    let mut line = Vec::from_slice(alloc, b"illegal ")?;
+    line.extend_from_slice(key.bytes())?;
+    push_verdict(&mut line, verdict)?;
+    line.push(b'\n')?;
+    Ok(Blob::of(line))
+}
+
+/// Appends the words that tell the verdict, each with a space before it.
+fn push_verdict(line: &mut Vec<u8>, verdict: Verdict) -> Result<(), NoMemory>
+    ensures { OnOk result (line.new.items ≡ line.old.items ++ spaced (verdict_words verdict)) }
+{
+    match verdict {
+        Verdict::Legal => push_word(line, b"legal"),
+        Verdict::Missing(number) => push_fault(line, b"missing", number),
+        Verdict::Stranger(number) => push_fault(line, b"stranger", number),
+        Verdict::Twice(number) => push_fault(line, b"twice", number),
+        Verdict::Wrong(number) => push_fault(line, b"wrong", number),
+        Verdict::Early(earlier, later) => {
+            push_fault(line, b"early", earlier)?;
+            push_number_word(line, later.into())
+        }
+    }
+}
+
+/// Appends the name of a violation and the number of an operation.
+fn push_fault(line: &mut Vec<u8>, name: &[u8], number: u32) -> Result<(), NoMemory>
+    ensures { OnOk result (line.new.items ≡ line.old.items ++ spaced (name.now ∷ decimal number ∷ [])) }
+{
+    push_word(line, name)?;
+    push_number_word(line, number.into())
+}
+
+fn push_word(line: &mut Vec<u8>, word: &[u8]) -> Result<(), NoMemory>
+    ensures { OnOk result (line.new.items ≡ line.old.items ++ 32 ∷ word.now) }
+{
+    line.push(b' ')?;
+    line.extend_from_slice(word)?;
+    Ok(())
+}
+
+fn push_number_word(line: &mut Vec<u8>, number: u64) -> Result<(), NoMemory>
+    ensures { OnOk result (line.new.items ≡ line.old.items ++ 32 ∷ decimal number) }
+{
+    line.push(b' ')?;
+    push_number(line, number)?;
+    Ok(())
+}
