@@ -25,7 +25,7 @@ pub fn check(alloc: Global, history: &History, order: &Order) -> Result<Verdict,
     ensures legal { IfOk result (λ verdict. (verdict ≡ Verdict.Legal) ↔ IsLinearization history.now order.now.key order.now.ops) }
 {
     let index = OperationIndex::of(alloc, history)?;
-    verdict_on(alloc, &index, order)
+    verdict_on(alloc, &index, &order.key, order.ops.items())
 }
 
 /// The key of the first order of the report that is not legal, and the verdict on it.
@@ -51,7 +51,7 @@ fn first_illegal_among(
     ensures { IfOk result (λ found. found ≡ first_illegal index.now orders.now) }
 {
     for order in orders {
-        let verdict = verdict_on(alloc, index, order)?;
+        let verdict = verdict_on(alloc, index, &order.key, order.ops.items())?;
         if !verdict.is_legal() {
             return Ok(Some((order.key, verdict)));
         }
@@ -64,19 +64,19 @@ pub fn legal_exactly_for_linearizations()
     ensures { (history : List Operation) (key order : List ℕ) → (first_violation history key order ≡ Verdict.Legal) ↔ IsLinearization history key order }
 {}
 
-/// The verdict on one order, by the index of the history.
+/// The verdict on the numbers as an order of the key, by the index of the history.
 fn verdict_on(
     alloc: Global,
     index: &OperationIndex,
-    order: &Order,
+    key: &Key,
+    numbers: &[u32],
 ) -> Result<Verdict, NoMemory>
-    ensures { IfOk result (λ verdict. verdict ≡ first_violation index.now order.now.key order.now.ops) }
+    ensures { IfOk result (λ verdict. verdict ≡ first_violation index.now key.now numbers.now) }
 {
-    let numbers = order.ops.items();
-    if let Some(number) = first_missing(alloc, index, &order.key, numbers)? {
+    if let Some(number) = first_missing(alloc, index, key, numbers)? {
         return Ok(Verdict::Missing(number));
     }
-    if let Some(number) = first_stranger(index, &order.key, numbers) {
+    if let Some(number) = first_stranger(index, key, numbers) {
         return Ok(Verdict::Stranger(number));
     }
     if let Some(number) = first_repeated(alloc, numbers)? {

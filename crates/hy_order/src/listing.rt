@@ -51,9 +51,12 @@ fn set_of(alloc: Global, numbers: &[u32]) -> Result<BTreeSet<u32>, NoMemory>
 fn first_unlisted(ops: &[&Operation], listed: &BTreeSet<u32>) -> Option<u32>
     ensures { result ≡ unlisted_number (contains nat_cmp listed.now) (map (λ op. op.now) ops.now) }
 {
-    ops.iter()
-        .find(|op| is_finished(&op.end) && !listed.contains(&op.number))
-        .map(|op| op.number)
+    for op in ops {
+        if is_finished(&op.end) && !listed.contains(&op.number) {
+            return Some(op.number);
+        }
+    }
+    None
 }
 
 /// The first listed number that is of no operation, or of one that an order of the key may not list.

@@ -5,4 +5,4 @@ use Rattle.hy_order.specs.Linearization.{listed}
 use Rattle.hy_order.proofs.listing.operations_of.Given as goal
 
 abbrev pub invariant-loop-number : goal.invariant-loop-number
-invariant-loop-number l = map (λ (op : Bor Operation). op.now) l.found.items ≡ listed l.ops (take l.number-index l.numbers)
+invariant-loop-number l = map (λ (op : Bor Operation). op.now) l.found.items ≡ listed l.index (take l.number-index l.numbers)
