@@ -15,7 +15,7 @@ use Rattle.hy_order.specs.declared.order.Order.{Order}
 use Rattle.hy_order.specs.declared.report.Report.{Report}
 use Rattle.hy_order.specs.History.{key_of_action}
 use Rattle.hy_order.specs.Keys.{insert_key, sorted_keys}
-use Rattle.hy_order.specs.Linearization.{IsLinearized, IsReportLinearizable, acts_on_register, has_order}
+use Rattle.hy_order.specs.Linearization.{IsReportLinearizable, acts_on_register, has_order}
 use Rattle.hy_order.specs.ReportRanges.{IsReport, register_key, register_keys}
 use Rattle.hy_order.specs.Violation.{first_illegal}
 use Rattle.hy_order.proofs.Illegal.{none_illegal}

@@ -1,10 +1,9 @@
 -- No order of a report is illegal exactly where each is a linearization.
-use Rattle.std.proofs.Common.{◌≡◌, ℕ, Bool, true, false, ◌↔◌, IsTrue, List, [], ◌∷◌, Option, Some, None, cond, refl, sym, ap, ◌∙◌}
-use Rattle.std.proofs.lemmas.Bool.{false≢true}
+use Rattle.std.proofs.Common.{◌≡◌, ℕ, true, false, ◌↔◌, List, [], ◌∷◌, Option, Some, None, cond, refl, sym, ap, ◌∙◌}
 use Rattle.std.specs.List.{AllByRecursion}
 use Rattle.std.specs.Option.{option_or}
-use Rattle.hy_order.specs.declared.checking.Verdict.{Verdict}
-use Rattle.hy_order.specs.declared.checking.Verdict.TheVariants.{Legal, Missing, Stranger, Twice, Early, Wrong}
+use Rattle.hy_order.specs.declared.verdict.Verdict.{Verdict}
+use Rattle.hy_order.specs.declared.verdict.Verdict.TheVariants.{Legal, Missing, Stranger, Twice, Early, Wrong}
 use Rattle.hy_order.specs.declared.operation.Operation.{Operation}
 use Rattle.hy_order.specs.declared.order.Order.{Order}
 use Rattle.hy_order.specs.Linearization.{IsLinearized}

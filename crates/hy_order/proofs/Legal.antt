@@ -6,8 +6,8 @@ use Rattle.std.specs.Cmp.Lexicographic.{bytes_decides}
 use Rattle.std.specs.List.{AllByRecursion, IsDistinct, find}
 use Rattle.std.specs.Option.{option_map, option_or, option_map_or}
 use Rattle.hy_record.specs.declared.action.Reply.TheVariants as told
-use Rattle.hy_order.specs.declared.checking.Verdict.{Verdict}
-use Rattle.hy_order.specs.declared.checking.Verdict.TheVariants.{Legal, Missing, Stranger, Twice, Early, Wrong}
+use Rattle.hy_order.specs.declared.verdict.Verdict.{Verdict}
+use Rattle.hy_order.specs.declared.verdict.Verdict.TheVariants.{Legal, Missing, Stranger, Twice, Early, Wrong}
 use Rattle.hy_order.specs.declared.operation.End.{End}
 use Rattle.hy_order.specs.declared.operation.End.TheVariants.{Replied, Pending}
 use Rattle.hy_order.specs.declared.operation.Operation.{Operation}
@@ -23,7 +23,7 @@ cond_none_from : {X : Type 0} (b : Bool) (x : X) (rest : Option X) → b ≡ fal
 cond_none_from b x rest fails none = cond-false b (Some x) rest fails ∙ none
 
 -- nothing is found exactly where each element fails the test
-pub find_none : {X : Type 0} (p : X → Bool) (xs : List X) → find p xs ≡ None → AllByRecursion (λ x. p x ≡ false) xs
+find_none : {X : Type 0} (p : X → Bool) (xs : List X) → find p xs ≡ None → AllByRecursion (λ x. p x ≡ false) xs
 find_none p [] none = tt
 find_none p (x ∷ xs) none = let parts = cond_none (p x) x (find p xs) none in (parts.0, find_none p xs parts.1)
 

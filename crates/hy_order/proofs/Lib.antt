@@ -16,5 +16,7 @@ mod Legal
 mod Illegal
 mod DueOrders
 mod Places
+mod Sets
+mod Grouping
 mod Listed
 mod Verdicts

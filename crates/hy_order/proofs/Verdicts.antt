@@ -1,6 +1,6 @@
 -- The verdict, by the first find that gives something.
 use Rattle.std.proofs.Common.{◌≡◌, ℕ, List, Some, None}
-use Rattle.hy_order.specs.declared.checking.Verdict.TheVariants.{Legal, Missing, Stranger, Twice, Early, Wrong}
+use Rattle.hy_order.specs.declared.verdict.Verdict.TheVariants.{Legal, Missing, Stranger, Twice, Early, Wrong}
 use Rattle.hy_order.specs.declared.operation.Operation.{Operation}
 use Rattle.hy_order.specs.Linearization.{listed}
 use Rattle.hy_order.specs.Violation.{missing_number, stranger_number, repeated_number, early_numbers, wrong_number, first_violation}

@@ -5,6 +5,7 @@ pub mod Report
 pub mod Words
 pub mod Violation
 pub mod Checking
+pub mod Index
 pub mod OpenLine
 pub mod WordReaders
 pub mod ReportRanges

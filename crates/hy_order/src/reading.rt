@@ -62,6 +62,11 @@ pub fn read_report(alloc: Global, text: &[u8]) -> Result<Report, TextError>
     read_text(alloc, text)
 }
 
+/// What is read of the text of a report in range is that report.
+pub fn reports_are_read_back()
+    ensures { (report : Report) → IsReport report → report_of (report_text report) ≡ Ok report }
+{}
+
 /// The report of the text, or its first fault.
 #[tactic(auto, unfolding(crate::specs::ReportReading::report_of, crate::specs::ReportReading::report_at))]
 fn read_text(alloc: Global, text: &[u8]) -> Result<Report, TextError>

@@ -207,6 +207,7 @@ fn push_held(out: &mut Vec<u8>, held: &Held) -> Result<(), NoMemory>
     Ok(())
 }
 
+/// Appends a space and the numbers with commas between, or a dash where there is none.
 pub(crate) fn push_clouds(out: &mut Vec<u8>, clouds: &[u32]) -> Result<(), NoMemory>
     ensures { OnOk result (out.new.items ≡ out.old.items ++ 32 ∷ cloud_word clouds.now) }
 {

@@ -1,151 +1,72 @@
 //! Orders of small histories, and the verdicts on them.
 
-ghost use Rattle.std.specs.Prelude.{◌≡◌};
-
 use super::*;
-use hy_base::{Blob, Numbers};
-use hy_record::{Phase, Stamp};
+use crate::reading::read_report;
+use hy_base::Numbers;
 use std::test::Fail;
 
-fn operation(number: u32, action: Action, invoked: u64, end: End) -> Operation
-    ensures number { result.number ≡ number }
-    ensures action { result.action ≡ action }
-    ensures end { result.end ≡ end }
-{
-    Operation {
-        number,
-        client: number,
-        action,
-        invoked,
-        end,
-    }
-}
+/// Two puts of a key, one after the other.
+const TWO_PUTS: &[u8] = b"op 1 1 put a 31 1 2 done 0 0\n\
+op 2 2 put a 32 3 4 done 0 0\n\
+order a\n\
+end 2 1\n";
 
-fn replied(at: u64, reply: Reply) -> End
-    ensures { result ≡ End.Replied at reply }
-{
-    End::Replied { at, reply }
-}
-
-fn pending(phase: Phase) -> End
-    ensures { result ≡ End.Pending phase 0 1 }
-{
-    End::Pending {
-        phase,
-        have: 0,
-        need: 1,
-    }
-}
-
-/// Two puts of the key, one after the other.
-fn two_puts(alloc: Global, key: Key) -> Result<History, NoMemory> {
-    let stamp = Stamp::zero();
-    let one = Blob::copy_of(alloc, b"1")?;
-    let two = Blob::copy_of(alloc, b"2")?;
-    let ops = vec![in alloc;
-        operation(
-            1,
-            Action::Put { key, value: one },
-            1,
-            replied(2, Reply::Done(stamp))
-        ),
-        operation(
-            2,
-            Action::Put { key, value: two },
-            3,
-            replied(4, Reply::Done(stamp))
-        ),
-    ]?;
-    Ok(History::of(ops))
-}
-
-/// A put of the key, and then a get that answers its value.
-fn put_and_get(alloc: Global, key: Key) -> Result<History, NoMemory> {
-    let stamp = Stamp::zero();
-    let put = Blob::copy_of(alloc, b"abc")?;
-    let got = Blob::copy_of(alloc, b"abc")?;
-    let ops = vec![in alloc;
-        operation(
-            1,
-            Action::Put { key, value: put },
-            2,
-            replied(8, Reply::Done(stamp))
-        ),
-        operation(
-            2,
-            Action::Get { key },
-            9,
-            replied(13, Reply::Value(got, stamp))
-        ),
-    ]?;
-    Ok(History::of(ops))
-}
+/// A put of a key, and then a get that answers its value.
+const PUT_AND_GET: &[u8] = b"op 1 1 put a 616263 2 8 done 0 0\n\
+op 2 2 get a 9 13 value 616263 0 0\n\
+order a\n\
+end 2 1\n";
 
 /// Two puts, a get of the second, a delete, a get that finds it, a collection, an unfinished put and
 /// an unfinished get, a put without a timestamp left, and a put of another key.
 ///
 /// The second begins where the first ends; the gets overlap the writes that they see.
-fn all_kinds(alloc: Global, key: Key, other: Key) -> Result<History, NoMemory> {
-    let stamp = Stamp::zero();
-    let one = Blob::copy_of(alloc, b"1")?;
-    let two = Blob::copy_of(alloc, b"2")?;
-    let got = Blob::copy_of(alloc, b"2")?;
-    let three = Blob::copy_of(alloc, b"3")?;
-    let four = Blob::copy_of(alloc, b"4")?;
-    let five = Blob::copy_of(alloc, b"5")?;
-    let ops = vec![in alloc;
-        operation(
-            1,
-            Action::Put { key, value: one },
-            1,
-            replied(3, Reply::Done(stamp))
-        ),
-        operation(
-            2,
-            Action::Put { key, value: two },
-            3,
-            replied(5, Reply::Done(stamp))
-        ),
-        operation(
-            3,
-            Action::Get { key },
-            4,
-            replied(6, Reply::Value(got, stamp))
-        ),
-        operation(4, Action::Delete { key }, 7, replied(9, Reply::Done(stamp))),
-        operation(5, Action::Get { key }, 8, replied(10, Reply::Absent(stamp))),
-        operation(
-            6,
-            Action::Collect { key },
-            11,
-            replied(12, Reply::Collected(1))
-        ),
-        operation(
-            7,
-            Action::Put { key, value: three },
-            13,
-            pending(Phase::Store)
-        ),
-        operation(8, Action::Get { key }, 14, pending(Phase::Fetch)),
-        operation(
-            9,
-            Action::Put { key, value: four },
-            15,
-            replied(16, Reply::Exhausted(stamp))
-        ),
-        operation(
-            10,
-            Action::Put {
-                key: other,
-                value: five
-            },
-            17,
-            replied(18, Reply::Done(stamp))
-        ),
-    ]?;
-    Ok(History::of(ops))
-}
+const ALL_KINDS: &[u8] = b"op 1 1 put a 31 1 3 done 0 0\n\
+op 2 2 put a 32 3 5 done 0 0\n\
+op 3 3 get a 4 6 value 32 0 0\n\
+op 4 4 delete a 7 9 done 0 0\n\
+op 5 5 get a 8 10 none 0 0\n\
+op 6 6 collect a 11 12 collected 1\n\
+op 7 7 put a 33 13 - store 0 1\n\
+op 8 8 get a 14 - fetch 0 1\n\
+op 9 9 put a 34 15 16 exhausted 0 0\n\
+op 10 10 put b 35 17 18 done 0 0\n\
+order a\n\
+order b\n\
+end 10 2\n";
 
+/// Orders of the first key of the history of all kinds.
+const ORDERS: [(&[u32], Verdict); 24] = [
+    (&[1, 2, 3, 4, 5], Verdict::Legal),
+    (&[1, 2, 3, 4, 5, 7], Verdict::Legal),
+    (&[], Verdict::Missing(1)),
+    (&[1, 2, 4, 5], Verdict::Missing(3)),
+    (&[1, 2, 3, 5], Verdict::Missing(4)),
+    (&[11, 5, 5, 3, 2], Verdict::Missing(1)),
+    (&[0, 1, 2, 3, 4, 5], Verdict::Stranger(0)),
+    (&[1, 2, 3, 4, 5, 11], Verdict::Stranger(11)),
+    (
+        &[1, 2, 3, 4, 5, 4_294_967_295],
+        Verdict::Stranger(4_294_967_295),
+    ),
+    (&[1, 2, 3, 4, 5, 6], Verdict::Stranger(6)),
+    (&[1, 2, 3, 4, 5, 8], Verdict::Stranger(8)),
+    (&[1, 2, 3, 4, 5, 9], Verdict::Stranger(9)),
+    (&[1, 1, 2, 3, 10, 4, 5, 8], Verdict::Stranger(10)),
+    (&[1, 2, 3, 4, 5, 1], Verdict::Twice(1)),
+    (&[5, 2, 3, 2, 3, 4, 1], Verdict::Twice(2)),
+    (&[1, 2, 3, 4, 5, 7, 7], Verdict::Twice(7)),
+    (&[5, 3, 2, 1, 4], Verdict::Early(3, 5)),
+    (&[1, 4, 5, 3, 2], Verdict::Early(3, 4)),
+    (&[1, 2, 3, 4, 7, 5], Verdict::Early(5, 7)),
+    (&[3, 1, 2, 4, 5], Verdict::Early(1, 3)),
+    (&[2, 1, 3, 4, 5], Verdict::Wrong(3)),
+    (&[1, 3, 2, 4, 5], Verdict::Wrong(3)),
+    (&[1, 2, 3, 5, 4], Verdict::Wrong(5)),
+    (&[1, 3, 2, 5, 4], Verdict::Wrong(3)),
+];
+
+/// The verdict on the numbers as an order of the key.
 fn verdict(
     alloc: Global,
     history: &History,
@@ -159,7 +80,7 @@ fn verdict(
 #[test]
 fn checker_real_time(rt: HostRuntime) -> Result<(), Fail> {
     let key = Key::read(b"a").ok().ok_or("a key")?;
-    let history = two_puts(rt.alloc(), key)?;
+    let history = read_report(rt.alloc(), TWO_PUTS)?.history;
     assert_eq!(rt;
         verdict(rt.alloc(), &history, key, &[2, 1])?,
         Verdict::Early(1, 2)
@@ -170,63 +91,29 @@ fn checker_real_time(rt: HostRuntime) -> Result<(), Fail> {
 #[test]
 fn checker_verdicts(rt: HostRuntime) -> Result<(), Fail> {
     let key = Key::read(b"a").ok().ok_or("a key")?;
-    let history = put_and_get(rt.alloc(), key)?;
-    assert_eq!(rt;
-        verdict(rt.alloc(), &history, key, &[1, 2])?,
-        Verdict::Legal
-    );
-    assert_eq!(rt;
-        verdict(rt.alloc(), &history, key, &[1])?,
-        Verdict::Missing(2)
-    );
-    assert_eq!(rt;
-        verdict(rt.alloc(), &history, key, &[2, 1])?,
-        Verdict::Early(1, 2)
-    );
+    let history = read_report(rt.alloc(), PUT_AND_GET)?.history;
+    for (numbers, expected) in [
+        ([1, 2].as_slice(), Verdict::Legal),
+        ([1].as_slice(), Verdict::Missing(2)),
+        ([2, 1].as_slice(), Verdict::Early(1, 2)),
+    ] {
+        assert_eq!(rt; verdict(rt.alloc(), &history, key, numbers)?, expected);
+    }
     Ok(())
 }
 
 #[test]
 fn names_the_first_violation(rt: HostRuntime) -> Result<(), Fail> {
     let key = Key::read(b"a").ok().ok_or("a key")?;
-    let other = Key::read(b"b").ok().ok_or("another key")?;
-    let history = all_kinds(rt.alloc(), key, other)?;
-    let cases: [(&[u32], Verdict); 24] = [
-        (&[1, 2, 3, 4, 5], Verdict::Legal),
-        (&[1, 2, 3, 4, 5, 7], Verdict::Legal),
-        (&[], Verdict::Missing(1)),
-        (&[1, 2, 4, 5], Verdict::Missing(3)),
-        (&[1, 2, 3, 5], Verdict::Missing(4)),
-        (&[11, 5, 5, 3, 2], Verdict::Missing(1)),
-        (&[0, 1, 2, 3, 4, 5], Verdict::Stranger(0)),
-        (&[1, 2, 3, 4, 5, 11], Verdict::Stranger(11)),
-        (
-            &[1, 2, 3, 4, 5, 4_294_967_295],
-            Verdict::Stranger(4_294_967_295),
-        ),
-        (&[1, 2, 3, 4, 5, 6], Verdict::Stranger(6)),
-        (&[1, 2, 3, 4, 5, 8], Verdict::Stranger(8)),
-        (&[1, 2, 3, 4, 5, 9], Verdict::Stranger(9)),
-        (&[1, 1, 2, 3, 10, 4, 5, 8], Verdict::Stranger(10)),
-        (&[1, 2, 3, 4, 5, 1], Verdict::Twice(1)),
-        (&[5, 2, 3, 2, 3, 4, 1], Verdict::Twice(2)),
-        (&[1, 2, 3, 4, 5, 7, 7], Verdict::Twice(7)),
-        (&[5, 3, 2, 1, 4], Verdict::Early(3, 5)),
-        (&[1, 4, 5, 3, 2], Verdict::Early(3, 4)),
-        (&[1, 2, 3, 4, 7, 5], Verdict::Early(5, 7)),
-        (&[3, 1, 2, 4, 5], Verdict::Early(1, 3)),
-        (&[2, 1, 3, 4, 5], Verdict::Wrong(3)),
-        (&[1, 3, 2, 4, 5], Verdict::Wrong(3)),
-        (&[1, 2, 3, 5, 4], Verdict::Wrong(5)),
-        (&[1, 3, 2, 5, 4], Verdict::Wrong(3)),
-    ];
-    for (numbers, expected) in cases {
+    let history = read_report(rt.alloc(), ALL_KINDS)?.history;
+    for (numbers, expected) in ORDERS {
         assert_eq!(rt;
             verdict(rt.alloc(), &history, key, numbers)?,
             expected,
             "at {numbers:?}"
         );
     }
+    let other = Key::read(b"b").ok().ok_or("another key")?;
     assert_eq!(rt;
         verdict(rt.alloc(), &history, other, &[10])?,
         Verdict::Legal
@@ -235,5 +122,34 @@ fn names_the_first_violation(rt: HostRuntime) -> Result<(), Fail> {
         verdict(rt.alloc(), &history, other, &[])?,
         Verdict::Missing(10)
     );
+    Ok(())
+}
+
+#[test]
+fn names_the_first_illegal_order(rt: HostRuntime) -> Result<(), Fail> {
+    let a = Key::read(b"a").ok().ok_or("a key")?;
+    let b = Key::read(b"b").ok().ok_or("another key")?;
+    for (orders, expected) in [
+        (b"order a 1\norder b 2\n".as_slice(), None),
+        (
+            b"order a 1\norder b\n".as_slice(),
+            Some((b, Verdict::Missing(2))),
+        ),
+        (
+            b"order a 1 1\norder b\n".as_slice(),
+            Some((a, Verdict::Twice(1))),
+        ),
+    ] {
+        let mut text = Vec::from_slice(rt.alloc(), b"op 1 1 put a 31 1 2 done 0 0\n")?;
+        text.extend_from_slice(b"op 2 1 put b 32 3 4 done 0 0\n")?;
+        text.extend_from_slice(orders)?;
+        text.extend_from_slice(b"end 2 2\n")?;
+        let report = read_report(rt.alloc(), text.as_slice())?;
+        assert_eq!(rt;
+            first_illegal(rt.alloc(), &report)?,
+            expected,
+            "at {orders:?}"
+        );
+    }
     Ok(())
 }

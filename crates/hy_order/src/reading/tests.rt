@@ -22,6 +22,64 @@ const HELD: &[u8] = b"op 1 1 put a - 1 7 done 1 1\norder a 1\nheld a 1 1 0\n";
 
 const ENDED: &[u8] = b"op 1 1 put a - 1 7 done 1 1\norder a 1\nheld a 1 1 0\nend 1 1\n";
 
+/// Lines of a second operation, each with the cause of its first bad word.
+const BAD_OPERATIONS: [(&[u8], Cause); 22] = [
+    (b"op 3 1 get a 8 - read 0 1", Cause::BadNumber),
+    (b"op 02 1 get a 8 - read 0 1", Cause::BadNumber),
+    (b"op  2 1 get a 8 - read 0 1", Cause::BadNumber),
+    (b"op 2 0 get a 8 - read 0 1", Cause::BadNumber),
+    (b"op 2 4294967296 get a 8 - read 0 1", Cause::BadNumber),
+    (b"op 2 1 fly a 8 - read 0 1", Cause::BadWord),
+    (b"op 2 1 get A 8 - read 0 1", Cause::BadKey),
+    (b"op 2 1 put a 0 8 - read 0 1", Cause::BadHex),
+    (b"op 2 1 get a 1 - read 0 1", Cause::BadNumber),
+    (
+        b"op 2 1 get a 9223372036854775809 - read 0 1",
+        Cause::BadNumber,
+    ),
+    (b"op 2 1 get a 8 8 none 0 0", Cause::BadNumber),
+    (
+        b"op 2 1 get a 8 9223372036854775809 none 0 0",
+        Cause::BadNumber,
+    ),
+    (b"op 2 1 get a 8 + read 0 1", Cause::BadNumber),
+    (b"op 2 1 get a 8 9 done 1 1", Cause::BadWord),
+    (b"op 2 1 delete a 8 9 none 0 0", Cause::BadWord),
+    (b"op 2 1 collect a 8 9 collected -1", Cause::BadNumber),
+    (b"op 2 1 delete a 8 - store 0 1", Cause::BadWord),
+    (b"op 2 1 get a 8 9 none 4294967295 0", Cause::BadNumber),
+    (b"op 2 1 get a 8 9 none 0 4294967296", Cause::BadNumber),
+    (b"op 2 1 get a 8 - read 0", Cause::BadNumber),
+    (b"op 2 1 get a 8 - read 0 1 ", Cause::Extra),
+    (b"op 2 1 get a 8 - read 0 1\r", Cause::BadNumber),
+];
+
+/// Lines behind a text, each with its number and the cause of its first bad word.
+const BAD_LINES: [(&[u8], &[u8], u32, Cause); 22] = [
+    (FIRST, b"", 2, Cause::BadWord),
+    (FIRST, b"held a 1 1 -", 2, Cause::BadWord),
+    (FIRST, b"order b 1", 2, Cause::BadKey),
+    (FIRST, b"order a 0", 2, Cause::BadNumber),
+    (FIRST, b"order a 1 ", 2, Cause::BadNumber),
+    (FIRST, b"order a 1 4294967296", 2, Cause::BadNumber),
+    (ORDERED, b"op 2 1 get a 8 - read 0 1", 3, Cause::BadWord),
+    (ORDERED, b"order b 1", 3, Cause::BadWord),
+    (ORDERED, b"held A 1 1 -", 3, Cause::BadKey),
+    (ORDERED, b"held a 4294967295 1 -", 3, Cause::BadNumber),
+    (ORDERED, b"held a 1 1 1,0", 3, Cause::BadNumber),
+    (ORDERED, b"held a 1 1 0,", 3, Cause::BadNumber),
+    (ORDERED, b"held a 1 1 10", 3, Cause::BadNumber),
+    (ORDERED, b"held a 1 1", 3, Cause::BadNumber),
+    (ORDERED, b"held a 1 1 - -", 3, Cause::Extra),
+    (HELD, b"held a 1 1 -", 4, Cause::BadKey),
+    (HELD, b"held Z 1 1 -", 4, Cause::BadKey),
+    (HELD, b"end 2 1", 4, Cause::BadNumber),
+    (HELD, b"end 1 2", 4, Cause::BadNumber),
+    (HELD, b"end 1 1 ", 4, Cause::Extra),
+    (ENDED, b"held b 1 1 -", 5, Cause::Extra),
+    (ENDED, b"", 5, Cause::Extra),
+];
+
 fn fault(line: u32, cause: Cause) -> Option<TextError> {
     Some(TextError::Fault(TextFault { line, cause }))
 }
@@ -50,48 +108,7 @@ fn report_is_read_and_written(rt: HostRuntime) -> Result<(), Fail> {
 
 #[test]
 fn first_bad_word_of_an_operation_is_named(rt: HostRuntime) -> Result<(), Fail> {
-    for (line, cause) in [
-        (b"op 3 1 get a 8 - read 0 1".as_slice(), Cause::BadNumber),
-        (b"op 02 1 get a 8 - read 0 1".as_slice(), Cause::BadNumber),
-        (b"op  2 1 get a 8 - read 0 1".as_slice(), Cause::BadNumber),
-        (b"op 2 0 get a 8 - read 0 1".as_slice(), Cause::BadNumber),
-        (
-            b"op 2 4294967296 get a 8 - read 0 1".as_slice(),
-            Cause::BadNumber,
-        ),
-        (b"op 2 1 fly a 8 - read 0 1".as_slice(), Cause::BadWord),
-        (b"op 2 1 get A 8 - read 0 1".as_slice(), Cause::BadKey),
-        (b"op 2 1 put a 0 8 - read 0 1".as_slice(), Cause::BadHex),
-        (b"op 2 1 get a 1 - read 0 1".as_slice(), Cause::BadNumber),
-        (
-            b"op 2 1 get a 9223372036854775809 - read 0 1".as_slice(),
-            Cause::BadNumber,
-        ),
-        (b"op 2 1 get a 8 8 none 0 0".as_slice(), Cause::BadNumber),
-        (
-            b"op 2 1 get a 8 9223372036854775809 none 0 0".as_slice(),
-            Cause::BadNumber,
-        ),
-        (b"op 2 1 get a 8 + read 0 1".as_slice(), Cause::BadNumber),
-        (b"op 2 1 get a 8 9 done 1 1".as_slice(), Cause::BadWord),
-        (b"op 2 1 delete a 8 9 none 0 0".as_slice(), Cause::BadWord),
-        (
-            b"op 2 1 collect a 8 9 collected -1".as_slice(),
-            Cause::BadNumber,
-        ),
-        (b"op 2 1 delete a 8 - store 0 1".as_slice(), Cause::BadWord),
-        (
-            b"op 2 1 get a 8 9 none 4294967295 0".as_slice(),
-            Cause::BadNumber,
-        ),
-        (
-            b"op 2 1 get a 8 9 none 0 4294967296".as_slice(),
-            Cause::BadNumber,
-        ),
-        (b"op 2 1 get a 8 - read 0".as_slice(), Cause::BadNumber),
-        (b"op 2 1 get a 8 - read 0 1 ".as_slice(), Cause::Extra),
-        (b"op 2 1 get a 8 - read 0 1\r".as_slice(), Cause::BadNumber),
-    ] {
+    for (line, cause) in BAD_OPERATIONS {
         let text = with_line(rt.alloc(), FIRST, line)?;
         assert_eq!(rt;
             read_report(rt.alloc(), text.as_slice()).err(),
@@ -104,45 +121,7 @@ fn first_bad_word_of_an_operation_is_named(rt: HostRuntime) -> Result<(), Fail> 
 
 #[test]
 fn first_bad_word_of_another_line_is_named(rt: HostRuntime) -> Result<(), Fail> {
-    for (front, line, number, cause) in [
-        (FIRST, b"".as_slice(), 2, Cause::BadWord),
-        (FIRST, b"held a 1 1 -".as_slice(), 2, Cause::BadWord),
-        (FIRST, b"order b 1".as_slice(), 2, Cause::BadKey),
-        (FIRST, b"order a 0".as_slice(), 2, Cause::BadNumber),
-        (FIRST, b"order a 1 ".as_slice(), 2, Cause::BadNumber),
-        (
-            FIRST,
-            b"order a 1 4294967296".as_slice(),
-            2,
-            Cause::BadNumber,
-        ),
-        (
-            ORDERED,
-            b"op 2 1 get a 8 - read 0 1".as_slice(),
-            3,
-            Cause::BadWord,
-        ),
-        (ORDERED, b"order b 1".as_slice(), 3, Cause::BadWord),
-        (ORDERED, b"held A 1 1 -".as_slice(), 3, Cause::BadKey),
-        (
-            ORDERED,
-            b"held a 4294967295 1 -".as_slice(),
-            3,
-            Cause::BadNumber,
-        ),
-        (ORDERED, b"held a 1 1 1,0".as_slice(), 3, Cause::BadNumber),
-        (ORDERED, b"held a 1 1 0,".as_slice(), 3, Cause::BadNumber),
-        (ORDERED, b"held a 1 1 10".as_slice(), 3, Cause::BadNumber),
-        (ORDERED, b"held a 1 1".as_slice(), 3, Cause::BadNumber),
-        (ORDERED, b"held a 1 1 - -".as_slice(), 3, Cause::Extra),
-        (HELD, b"held a 1 1 -".as_slice(), 4, Cause::BadKey),
-        (HELD, b"held Z 1 1 -".as_slice(), 4, Cause::BadKey),
-        (HELD, b"end 2 1".as_slice(), 4, Cause::BadNumber),
-        (HELD, b"end 1 2".as_slice(), 4, Cause::BadNumber),
-        (HELD, b"end 1 1 ".as_slice(), 4, Cause::Extra),
-        (ENDED, b"held b 1 1 -".as_slice(), 5, Cause::Extra),
-        (ENDED, b"".as_slice(), 5, Cause::Extra),
-    ] {
+    for (front, line, number, cause) in BAD_LINES {
         let text = with_line(rt.alloc(), front, line)?;
         assert_eq!(rt;
             read_report(rt.alloc(), text.as_slice()).err(),

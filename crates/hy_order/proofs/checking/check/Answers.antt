@@ -10,6 +10,6 @@ returns-clause-legal c =
     (λ verdict is.
     Legal-verdict c.args.history.now c.args.order.now.key c.args.order.now.ops verdict
     (is
-    ∙ ap (λ history. first_violation history c.args.order.now.key c.items-2.result.now) c.items.ensures.value
-    ∙ ap (first_violation c.args.history.now c.args.order.now.key) c.items-2.ensures))
+    ∙ ap (λ history. first_violation history c.args.order.now.key c.items.result.now) c.in_ok-index.ensures
+    ∙ ap (first_violation c.args.history.now c.args.order.now.key) c.items.ensures))
     c.verdict_on.ensures

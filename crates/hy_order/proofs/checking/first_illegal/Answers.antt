@@ -10,7 +10,7 @@ returns-clause-legal c =
     IfOk-weaker c.first_illegal_among.result _ _
     (λ found is.
     let both = none_illegal c.args.report.now.history c.args.report.now.orders in
-    let same = is ∙ ap (first_illegal c.args.report.now.history) c.items.ensures in
+    let same = is ∙ ap (λ history. first_illegal history c.items.result.now) c.in_ok-index.ensures ∙ ap (first_illegal c.args.report.now.history) c.items.ensures in
     (λ none. both.0 (sym same ∙ none), λ all. same ∙ both.1 all))
     c.first_illegal_among.ensures
 
@@ -19,6 +19,6 @@ returns-clause-linearizable c ruled =
     IfOk-weaker c.first_illegal_among.result _ _
     (λ found is.
     let both = none_illegal-linearizable c.args.report.now ruled in
-    let same = is ∙ ap (first_illegal c.args.report.now.history) c.items.ensures in
+    let same = is ∙ ap (λ history. first_illegal history c.items.result.now) c.in_ok-index.ensures ∙ ap (first_illegal c.args.report.now.history) c.items.ensures in
     (λ none. both.0 (sym same ∙ none), λ all. same ∙ both.1 all))
     c.first_illegal_among.ensures

@@ -3,7 +3,7 @@ use Rattle.std.specs.Borrow.{Bor}
 use Rattle.hy_order.specs.declared.operation.Operation.{Operation}
 use Rattle.hy_order.specs.Checking.{early_part}
 use Rattle.hy_order.proofs.Listed.{earliest_return}
-use Rattle.hy_order.proofs.checking.early_start.Given as goal
+use Rattle.hy_order.proofs.real_time.early_start.Given as goal
 
 abbrev pub invariant-loop-place : goal.invariant-loop-place
 invariant-loop-place l = record {

@@ -4,7 +4,7 @@ use Rattle.std.specs.Borrow.{Bor}
 use Rattle.hy_order.specs.declared.operation.Operation.{Operation}
 use Rattle.hy_order.specs.Checking.{early_part}
 use Rattle.hy_order.proofs.Listed.{earliest_return-more, early_part-here, early_part-later}
-use Rattle.hy_order.proofs.checking.early_start.Goals as goal
+use Rattle.hy_order.proofs.real_time.early_start.Goals as goal
 
 pub loop-place-preserved : goal.loop-place-preserved
 loop-place-preserved c =

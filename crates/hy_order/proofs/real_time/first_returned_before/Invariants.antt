@@ -2,7 +2,7 @@ use Rattle.std.proofs.Common.{◌≡◌, drop, map}
 use Rattle.std.specs.Borrow.{Bor}
 use Rattle.hy_order.specs.declared.operation.Operation.{Operation}
 use Rattle.hy_order.specs.Violation.{returned_number}
-use Rattle.hy_order.proofs.checking.first_returned_before.Given as goal
+use Rattle.hy_order.proofs.real_time.first_returned_before.Given as goal
 
 abbrev pub invariant-loop-op : goal.invariant-loop-op
 invariant-loop-op l =

@@ -2,7 +2,7 @@ use Rattle.std.proofs.Common.{◌≡◌, [], ◌∷◌, option_map, ap, ◌∙�
 use Rattle.std.proofs.lemmas.List.{nil_from_length}
 use Rattle.hy_order.specs.Checking.{early_part}
 use Rattle.hy_order.proofs.Listed.{early_numbers-none, early_numbers-at, early_part-targets, targets}
-use Rattle.hy_order.proofs.checking.first_early.Goals as goal
+use Rattle.hy_order.proofs.real_time.first_early.Goals as goal
 
 pub returns-in_err-op : goal.returns-in_err-op
 returns-in_err-op c =
