@@ -1,5 +1,5 @@
 -- What reading an input up to its limit answers.
-use Rattle.std.proofs.Common.{◌≡◌, ℕ, ◌<◌, ◌≤◌, List, length, Option, Result, Ok, Err, refl, arith}
+use Rattle.std.proofs.Common.{ℕ, ◌<◌, ◌≤◌, List, length, Option, Result, Ok, Err, refl, arith}
 use Rattle.std.specs.Prelude.{IsErrOf}
 use Rattle.hy_base.specs.Faults.{Rose}
 use Rattle.hy_base.specs.Source.{Reading}

@@ -6,7 +6,7 @@ use Rattle.hy_order.specs.Report.{report_text}
 use Rattle.hy_order.specs.ReportRanges.{IsReport}
 use Rattle.hy_order.specs.ReportReading.{report_of}
 use Rattle.hy_order.specs.Violation.{first_illegal}
-use Rattle.hy_order.specs.declared.checking.Verdict.{Verdict}
+use Rattle.hy_order.specs.declared.verdict.Verdict.{Verdict}
 use Rattle.hy_order.specs.declared.report.Report.{Report}
 use Rattle.hy_top.specs.Line.{legal_line}
 use Rattle.hy_top.specs.declared.outcome.Outcome.{Outcome}

@@ -4,8 +4,8 @@ use Rattle.std.specs.Fmt.{decimal}
 use Rattle.hy_base.specs.declared.fault.TextFault.{TextFault}
 use Rattle.hy_text.specs.Cause.{cause_word}
 use Rattle.hy_text.specs.Line.{line_text}
-use Rattle.hy_order.specs.declared.checking.Verdict.{Verdict}
-use Rattle.hy_order.specs.declared.checking.Verdict.TheVariants.{Legal, Missing, Stranger, Twice, Early, Wrong}
+use Rattle.hy_order.specs.declared.verdict.Verdict.{Verdict}
+use Rattle.hy_order.specs.declared.verdict.Verdict.TheVariants.{Legal, Missing, Stranger, Twice, Early, Wrong}
 
 -- the first bad line of an input, and its cause
 abbrev pub bad_input_line : TextFault → List ℕ

@@ -3,6 +3,7 @@ use hy_base::{Blob, BytesIn, BytesOut, Cause, MAX_INPUT, TextFault};
 use hy_order::Verdict;
 use hy_record::Key;
 use std::alloc::Global;
+use std::process::Abort;
 use std::test::Fail;
 
 /// A call of the program: the text of its input and how many line feeds stand behind it, the
@@ -72,9 +73,9 @@ fn illegal(key: &str, verdict: Verdict) -> Result<Status, Fail> {
 }
 
 /// Makes the calls, each of which has to answer and to write what its row tells.
-fn all_answer(rt: HostRuntime, rows: &[Row]) -> Result<(), Fail> {
+fn all_answer(rt: &impl Abort, alloc: Global, rows: &[Row]) -> Result<(), Fail> {
     for row in rows {
-        let (status, written) = row.answer(rt.alloc())?;
+        let (status, written) = row.answer(alloc)?;
         assert_eq!(rt; status, row.status);
         assert_eq!(rt; written.as_str(), row.written);
     }
@@ -112,7 +113,8 @@ fn worked_replays_answer_as_they_should(rt: HostRuntime) -> Result<(), Fail> {
     let mut too_long = replay_of("", Status::TooLong, "too long\n");
     too_long.line_feeds = MAX_INPUT as usize + 1;
     all_answer(
-        rt,
+        &rt,
+        rt.alloc(),
         &[
             replay_of(PUT_THEN_GET, Status::Done, ITS_REPORT),
             replay_of(EMPTY, Status::Done, "end 0 0\n"),
@@ -139,7 +141,8 @@ fn worked_checks_answer_as_they_should(rt: HostRuntime) -> Result<(), Fail> {
     let mut too_long = check_of("", Status::TooLong, "too long\n");
     too_long.line_feeds = MAX_INPUT as usize + 1;
     all_answer(
-        rt,
+        &rt,
+        rt.alloc(),
         &[
             check_of(ITS_REPORT, Status::Done, "legal 1\n"),
             check_of("end 0 0\n", Status::Done, "legal 0\n"),
@@ -161,7 +164,8 @@ fn worked_checks_answer_as_they_should(rt: HostRuntime) -> Result<(), Fail> {
 #[test]
 fn each_verdict_is_told(rt: HostRuntime) -> Result<(), Fail> {
     all_answer(
-        rt,
+        &rt,
+        rt.alloc(),
         &[
             check_of(
                 "op 1 1 put a 01 1 2 done 1 1\nop 2 2 put a 02 3 4 done 2 2\norder a 1\nend 2 1\n",
@@ -190,7 +194,8 @@ fn each_verdict_is_told(rt: HostRuntime) -> Result<(), Fail> {
 #[test]
 fn the_first_illegal_order_is_told(rt: HostRuntime) -> Result<(), Fail> {
     all_answer(
-        rt,
+        &rt,
+        rt.alloc(),
         &[
             check_of(
                 "op 1 1 put a 01 1 2 done 1 1\nop 2 2 put b 02 3 4 done 1 2\norder a 1\norder b\nend 2 2\n",
