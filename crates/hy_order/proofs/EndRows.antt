@@ -16,7 +16,7 @@ use Rattle.hy_record.specs.declared.action.Phase.{Phase}
 use Rattle.hy_record.specs.declared.action.Phase.TheVariants as phase
 use Rattle.hy_text.specs.Line.{first_word, later_words}
 use Rattle.hy_text.specs.Slot.{◌>>=◌, number_of, value_of, value_word}
-use Rattle.hy_text.proofs.Slots.{bind_ok, ok_is, words_from_first}
+use Rattle.hy_text.proofs.Slots.{bind_ok, ok_is, words_from_first, chosen, behind}
 use Rattle.hy_order.specs.declared.operation.End.{End}
 use Rattle.hy_order.specs.declared.operation.End.TheVariants.{Replied, Pending}
 use Rattle.hy_order.specs.declared.report.TheConstants.{LAST_STEP}
@@ -24,7 +24,7 @@ use Rattle.hy_order.specs.History.{is_reply_of, is_phase_of, is_end_of}
 use Rattle.hy_order.specs.Report.{stamp_words, reply_words, phase_word, end_words}
 use Rattle.hy_order.specs.ReportRanges.{IsTextStamp, IsTextValue, IsTextReply, IsTextEnd}
 use Rattle.hy_order.specs.WordReaders.{stamp_from, write_reply_from, value_from, get_reply_from, collect_reply_from, reply_from, phase_of, phase_word_of, pending_from, replied_from, end_from}
-use Rattle.hy_order.proofs.WordRows.{Spells, chosen, behind, number_word, value_first, stamp_takes, stamp_again}
+use Rattle.hy_order.proofs.WordRows.{Spells, number_word, value_first, stamp_takes, stamp_again}
 use Rattle.hy_text.proofs.Numbers.{number_again}
 use Rattle.hy_text.proofs.Values.{value_again}
 use Rattle.std.specs.Str.Parse.{AllDigits}

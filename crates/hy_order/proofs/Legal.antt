@@ -12,6 +12,7 @@ use Rattle.hy_order.specs.declared.operation.End.{End}
 use Rattle.hy_order.specs.declared.operation.End.TheVariants.{Replied, Pending}
 use Rattle.hy_order.specs.declared.operation.Operation.{Operation}
 use Rattle.hy_order.specs.Linearization.{is_of_key, is_finished, register_after, operation_at, listed, IsMember, TellsRegister, ReadsRegister, RespectsRealTime, IsLinearization}
+use Rattle.hy_order.proofs.Elements.{each}
 use Rattle.hy_order.specs.Violation.{is_listed, missing_number, is_member, stranger_number, repeated_behind, early_numbers, is_held, tells_register, wrong_number, first_violation}
 
 -- where a choice gives nothing
@@ -30,10 +31,6 @@ find_none p (x ∷ xs) none = let parts = cond_none (p x) x (find p xs) none in 
 find_none_from : {X : Type 0} (p : X → Bool) (xs : List X) → AllByRecursion (λ x. p x ≡ false) xs → find p xs ≡ None
 find_none_from p [] all = refl
 find_none_from p (x ∷ xs) all = cond_none_from (p x) x (find p xs) all.0 (find_none_from p xs all.1)
-
-pub each : {X : Type 0} {P Q : X → Type 0} → ((x : X) → P x → Q x) → (xs : List X) → AllByRecursion P xs → AllByRecursion Q xs
-each weaker [] all = tt
-each weaker (x ∷ xs) all = (weaker x all.0, each weaker xs all.1)
 
 option_map_none : {X Y : Type 0} (f : X → Y) (o : Option X) → option_map f o ≡ None → o ≡ None
 option_map_none f None none = refl

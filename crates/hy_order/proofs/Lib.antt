@@ -10,6 +10,8 @@ pub mod WordRows
 pub mod CloudWords
 pub mod Fronts
 pub mod Spaced
+pub mod Elements
+pub mod SortedKeys
 mod Lines
 mod Clouds
 mod Legal

@@ -6,19 +6,11 @@ use Rattle.hy_base.specs.declared.fault.Cause.{Cause}
 use Rattle.hy_base.specs.declared.fault.TextFault.{TextFault}
 use Rattle.hy_text.specs.Gives.{at_line, next_number}
 use Rattle.hy_text.specs.Line.{ended_line}
-use Rattle.hy_text.proofs.Slots.{bind_ok, ok_is}
+use Rattle.hy_text.proofs.Slots.{bind_ok, ok_is, at_line_ok, ended_ok}
+use Rattle.hy_text.specs.Slot.{end_of_line}
 use Rattle.hy_order.specs.OpenLine.{OpenLine, Rest, opened}
-use Rattle.hy_order.specs.ReportReading.{Kind, items_from, closed, end_of_line}
+use Rattle.hy_order.specs.ReportReading.{Kind, items_from, closed}
 use Rattle.hy_order.proofs.Fronts.{is_next_due}
-
--- the value of a line that is not at fault
-pub at_line_ok : {A : Type 0} (number : ℕ) (read : Result A Cause) (x : A) → at_line number read ≡ Ok x → read ≡ Ok x
-at_line_ok number (Ok y) x e = cc
-at_line_ok number (Err cause) x e = absurd cc
-
-ended_ok : (ended : Bool) (u : Unit {0}) → end_of_line ended ≡ Ok u → ended ≡ true
-ended_ok true u e = refl
-ended_ok false u e = absurd cc
 
 -- a line that is read has its end
 pub closed_ok : {A : Type 0} (ended : Bool) (read : Result A Cause) (x : A) → closed ended read ≡ Ok x → (ended ≡ true) × (read ≡ Ok x)

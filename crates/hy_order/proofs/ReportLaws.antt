@@ -28,7 +28,7 @@ use Rattle.hy_text.proofs.Numbers.{number_again}
 use Rattle.hy_text.proofs.Pieces.{pieces_at-some}
 use Rattle.hy_text.proofs.Printed.{is_word-decimal, is_word-key, is_word-value_word}
 use Rattle.hy_text.proofs.Rows.{lines_of-text_of, text_of-lines_of}
-use Rattle.hy_text.proofs.Slots.{bind_ok, ok_is, keyword_takes, end_takes}
+use Rattle.hy_text.proofs.Slots.{bind_ok, ok_is, keyword_takes, end_takes, at_line_ok}
 use Rattle.hy_order.specs.declared.held.Held.{Held}
 use Rattle.hy_order.specs.declared.operation.End.{End}
 use Rattle.hy_order.specs.declared.operation.End.TheVariants.{Replied, Pending}
@@ -44,7 +44,7 @@ use Rattle.hy_order.specs.ReportReading.{Before, counts_of, end_in, items_from, 
 use Rattle.hy_order.proofs.CloudTable.{cloud_word_is}
 use Rattle.hy_order.proofs.Fronts.{is_next_due, no_key_due}
 use Rattle.hy_order.proofs.HeldRows.{FitsAbove, helds_take, rising, ranges_taken, helds_fit, held_again}
-use Rattle.hy_order.proofs.LineGroups.{at_line_ok, closed_ok, rows_in, all_ended, state_after, line_of_row, items_again}
+use Rattle.hy_order.proofs.LineGroups.{closed_ok, rows_in, all_ended, state_after, line_of_row, items_again}
 use Rattle.hy_order.proofs.OperationRows.{FitsBehind, operations_take, operations_from_fits, operations_fit, operation_again}
 use Rattle.hy_order.proofs.OrderRows.{FitsKeys, AreKeys, orders_take, keys_taken, numbers_taken, orders_fit, order_again}
 use Rattle.hy_order.proofs.WordRows.{number_word}

@@ -1,9 +1,8 @@
 -- Groups of words: what is read is the row of what it spells, in range, and such a row is read again.
-use Rattle.std.proofs.Common.{◌≡◌, ℕ, ◌^◌, ◌<◌, ◌≤◌, ◌⊎◌, Bool, true, false, cond, IsTrue, List, ◌∷◌, ◌++◌, length, Result, Ok, Err, refl, sym, ap, subst, ◌∙◌, arith, inl, inr}
+use Rattle.std.proofs.Common.{◌≡◌, ℕ, ◌^◌, ◌<◌, ◌≤◌, IsTrue, List, ◌∷◌, ◌++◌, Ok, Err, refl, sym, ap, subst, ◌∙◌, arith, inl, inr}
 use Rattle.std.specs.Prelude.{codes}
 use Rattle.std.specs.Fmt.{decimal}
 use Rattle.std.specs.Str.{bytes_eq}
-use Rattle.std.proofs.lemmas.Slice.Eq.{bytes_eq-Decides}
 use Rattle.hy_base.specs.declared.fault.Cause.TheVariants.{BadWord}
 use Rattle.hy_base.specs.declared.limits.TheConstants.{MAX_TEXT_VALUE}
 use Rattle.hy_record.specs.Key.{is_key}
@@ -15,7 +14,7 @@ use Rattle.hy_text.specs.Slot.{number_of, value_of, key_word, value_word}
 use Rattle.hy_text.proofs.Keys.{key_takes, key_again}
 use Rattle.hy_text.proofs.Numbers.{number_takes, number_again}
 use Rattle.hy_text.proofs.Printed.{length-decimal, length-key, length-value_word}
-use Rattle.hy_text.proofs.Slots.{bind_ok, ok_is, words_from_first}
+use Rattle.hy_text.proofs.Slots.{bind_ok, ok_is, chosen, behind, words_from_first}
 use Rattle.hy_text.proofs.Values.{value_takes, value_again}
 use Rattle.hy_order.specs.Report.{stamp_words, action_words}
 use Rattle.hy_order.specs.ReportRanges.{IsTextValue, IsTextStamp, IsTextAction}
@@ -27,15 +26,6 @@ use Rattle.hy_order.specs.WordReaders.{stamp_from, put_from, key_from, action_fr
 pub record Spells {A : Type 0} (row_of : A → List (List ℕ)) (IsFit : A → Type 0) (words : List (List ℕ)) (read : A × List (List ℕ)) : Type 0 where
   pub row : words ≡ row_of read.0 ++ read.1
   pub fits : IsFit read.0
-
--- a choice by a keyword took one of its ways
-pub chosen : {A E : Type 0} (b : Bool) (here other : Result A E) (x : A) → cond b here other ≡ Ok x → ((b ≡ true) × (here ≡ Ok x)) ⊎ (other ≡ Ok x)
-chosen true here other x e = inl (refl, e)
-chosen false here other x e = inr e
-
--- the keyword stands in front of the words behind it
-pub behind : (words : List (List ℕ)) (keyword : List ℕ) → bytes_eq (first_word words) keyword ≡ true → 0 < length keyword → words ≡ keyword ∷ later_words words
-behind words keyword e some = words_from_first words keyword ((bytes_eq-Decides (first_word words) keyword).0 e) some
 
 -- the first word is the printed form of the number, which is in its range
 pub record IsNumberWord (low high : ℕ) (words : List (List ℕ)) (number : ℕ) : Type 0 where

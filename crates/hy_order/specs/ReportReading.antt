@@ -2,12 +2,12 @@
 use Rattle.std.specs.Prelude.{◌≡◌, ℕ, ◌+◌, Bool, true, false, if◌then◌else◌, List, [], ◌∷◌, length, map, codes, Option, Some, None, Result, Ok, Err}
 use Rattle.std.specs.Str.{bytes_eq}
 use Rattle.hy_base.specs.declared.fault.Cause.{Cause}
-use Rattle.hy_base.specs.declared.fault.Cause.TheVariants.{NoLineEnd, NoEnd, Extra}
+use Rattle.hy_base.specs.declared.fault.Cause.TheVariants.{NoEnd, Extra}
 use Rattle.hy_base.specs.declared.fault.TextError.{TextError}
 use Rattle.hy_base.specs.declared.fault.TextFault.{TextFault}
 use Rattle.hy_text.specs.Gives.{TextFails, at_line, next_number}
 use Rattle.hy_text.specs.Line.{lines_of, first_word, later_words}
-use Rattle.hy_text.specs.Slot.{◌>>=◌, keyword, number_of, end_of}
+use Rattle.hy_text.specs.Slot.{◌>>=◌, keyword, number_of, end_of, end_of_line}
 use Rattle.hy_order.specs.declared.held.Held.{Held}
 use Rattle.hy_order.specs.declared.operation.Operation.{Operation}
 use Rattle.hy_order.specs.declared.order.Order.{Order}
@@ -19,10 +19,6 @@ use Rattle.hy_order.specs.ReportRanges.{register_keys}
 use Rattle.hy_order.specs.WordReaders.{number_after, due_key, key_above, clouds_word_of, stamp_from, action_from, end_from, numbers_of}
 
 -- ---- the kinds of lines
-
--- the line has its end
-abbrev pub end_of_line : Bool → Result (Unit {0}) Cause
-end_of_line ended = if ended then Ok tt else Err NoLineEnd
 
 -- what stands in a line, where the line has its end
 abbrev pub closed : {A : Type 0} → Bool → Result A Cause → Result A Cause

@@ -12,7 +12,6 @@ ghost use Rattle.hy_order.specs.ReportReading.{
   TakesLines,
   counts_of,
   end_in,
-  end_of_line,
   held_in,
   held_lines,
   held_of,
@@ -37,7 +36,7 @@ use crate::report::{LAST_STEP, Report};
 use crate::slots::{read_clouds, read_due_key, read_key_above, read_numbers, read_stamp};
 use hy_base::{Cause, NoMemory, TextError, TextFault};
 use hy_record::{Action, Key};
-use hy_text::{LineError, Words, read_keyword, read_number};
+use hy_text::{LineError, Words, check_line_end, read_keyword, read_number};
 use std::alloc::Global;
 use std::collections::BTreeSet;
 
@@ -220,7 +219,7 @@ fn read_closed_operation(
     ensures number { line.new.number ≡ line.old.number }
 {
     let op = read_operation(alloc, last, step, &mut line.words)?;
-    check_end(line)?;
+    check_line_end(line.ended)?;
     Ok(op)
 }
 
@@ -241,7 +240,7 @@ fn read_closed_order(alloc: Global, key: &Key, line: &mut OpenLine) -> Result<Or
 {
     read_keyword(line.keyword, b"order")?;
     let order = read_order(alloc, key, &mut line.words)?;
-    check_end(line)?;
+    check_line_end(line.ended)?;
     Ok(order)
 }
 
@@ -275,7 +274,7 @@ fn read_closed_held(
     ensures number { line.new.number ≡ line.old.number }
 {
     let held = read_held(alloc, last, &mut line.words)?;
-    check_end(line)?;
+    check_line_end(line.ended)?;
     Ok(held)
 }
 
@@ -298,7 +297,7 @@ fn read_end_line(line: &mut OpenLine, ops: u64, orders: u64) -> Result<(), Cause
 {
     read_keyword(line.keyword, b"end")?;
     read_counts(&mut line.words, ops, orders)?;
-    check_end(line)
+    check_line_end(line.ended)
 }
 
 /// Reads the words of the last line behind the keyword.
@@ -309,17 +308,6 @@ fn read_counts(words: &mut Words, ops: u64, orders: u64) -> Result<(), Cause>
     read_number(words.next_word(), ops, ops)?;
     read_number(words.next_word(), orders, orders)?;
     words.end()
-}
-
-/// Whether a line feed ends the line.
-fn check_end(line: &OpenLine) -> Result<(), Cause>
-    ensures { result ≡ end_of_line line.now.ended }
-{
-    if line.ended {
-        Ok(())
-    } else {
-        Err(Cause::NoLineEnd)
-    }
 }
 
 #[cfg(test)]

@@ -1,13 +1,10 @@
 -- What holds of each element, by recursion on the list.
 use Rattle.std.proofs.Common.{Bool, IsTrue, List, [], ◌∷◌, ◌++◌, map, filter}
-use Rattle.std.proofs.lemmas.List.Elements.{recursion_from_All, All-from_recursion, All-push, All-weaker, All-map, All-filter, filter_passes}
+use Rattle.std.proofs.lemmas.List.Elements.{recursion_from_All, All-from_recursion, All-push, All-map, All-filter, filter_passes}
 use Rattle.std.specs.List.{AllByRecursion}
 
 pub AllByRecursion-push : {X : Type 0} (P : X → Type 0) (xs : List X) (x : X) → AllByRecursion P xs → P x → AllByRecursion P (xs ++ x ∷ [])
 AllByRecursion-push P xs x all here = recursion_from_All P _ (All-push P xs x (All-from_recursion P xs all) here)
-
-pub AllByRecursion-weaker : {X : Type 0} {P Q : X → Type 0} (xs : List X) → ((x : X) → P x → Q x) → AllByRecursion P xs → AllByRecursion Q xs
-AllByRecursion-weaker xs weaker all = recursion_from_All _ xs (All-weaker _ _ weaker xs (All-from_recursion _ xs all))
 
 pub AllByRecursion-both : {X : Type 0} {P Q R : X → Type 0} (xs : List X) → ((x : X) → P x → Q x → R x) → AllByRecursion P xs → AllByRecursion Q xs → AllByRecursion R xs
 AllByRecursion-both xs both ps qs =

@@ -1,10 +1,9 @@
 -- The words of an event line: what is read is the row of the event, and the row of an event is read again.
-use Rattle.std.proofs.Common.{◌≡◌, ℕ, ◌^◌, ◌<◌, ◌≤◌, ◌⊎◌, Bool, true, false, cond, IsTrue, List, [], ◌∷◌, length, Result, Ok, Err, refl, sym, ap, subst, ◌∙◌, arith, inl, inr}
+use Rattle.std.proofs.Common.{◌≡◌, ℕ, ◌^◌, ◌<◌, ◌≤◌, IsTrue, List, [], ◌∷◌, length, Ok, Err, refl, sym, ap, subst, ◌∙◌, arith, inl, inr}
 use Rattle.std.specs.Prelude.{codes}
 use Rattle.std.specs.Fmt.{decimal}
 use Rattle.std.specs.Str.{bytes_eq}
 use Rattle.std.proofs.lemmas.Bool.{and_parts, and_from, leb-true, le-leb}
-use Rattle.std.proofs.lemmas.Slice.Eq.{bytes_eq-Decides}
 use Rattle.hy_base.specs.declared.fault.Cause.TheVariants.{BadWord}
 use Rattle.hy_base.specs.declared.limits.TheConstants.{MAX_SESSIONS, MAX_TEXT_VALUE}
 use Rattle.hy_record.specs.Key.{is_key}
@@ -14,7 +13,7 @@ use Rattle.hy_text.specs.Slot.{number_of, value_of, key_word, end_of, value_word
 use Rattle.hy_text.proofs.Keys.{key_takes, key_again}
 use Rattle.hy_text.proofs.Numbers.{number_takes, number_again}
 use Rattle.hy_text.proofs.Printed.{length-decimal, length-key, length-value_word}
-use Rattle.hy_text.proofs.Slots.{bind_ok, ok_is, end_takes, words_from_first}
+use Rattle.hy_text.proofs.Slots.{bind_ok, ok_is, end_takes, chosen, behind, words_from_first}
 use Rattle.hy_text.proofs.Values.{value_takes, value_again}
 use Rattle.hy_quiet.specs.declared.event.Event.{Event}
 use Rattle.hy_quiet.specs.declared.event.Event.TheVariants.{Open, Put, Get}
@@ -26,15 +25,6 @@ use Rattle.hy_quiet.specs.Schedule.{is_client, event_row, IsWritable, put_of, ge
 pub record Spells (words : List (List ℕ)) (event : Event) : Type 0 where
   pub row : words ≡ event_row event
   pub writable : IsWritable event
-
--- a choice by a keyword took one of its ways
-chosen : {A E : Type 0} (b : Bool) (here other : Result A E) (x : A) → cond b here other ≡ Ok x → ((b ≡ true) × (here ≡ Ok x)) ⊎ (other ≡ Ok x)
-chosen true here other x e = inl (refl, e)
-chosen false here other x e = inr e
-
--- the keyword stands in front of the words behind it
-behind : (words : List (List ℕ)) (keyword : List ℕ) → bytes_eq (first_word words) keyword ≡ true → 0 < length keyword → words ≡ keyword ∷ later_words words
-behind words keyword e some = words_from_first words keyword ((bytes_eq-Decides (first_word words) keyword).0 e) some
 
 abbrev action_row : ℕ → List ℕ → List (List ℕ) → List (List ℕ)
 action_row client keyword words = codes "do" ∷ decimal client ∷ keyword ∷ words

@@ -8,7 +8,8 @@ use Rattle.hy_order.specs.declared.operation.End.TheVariants.{Replied, Pending}
 use Rattle.hy_order.specs.declared.operation.Operation.{Operation}
 use Rattle.hy_order.specs.History.{IsNumberedFrom}
 use Rattle.hy_order.specs.Linearization.{is_of_key, is_finished, may_be_listed, operation_at, listed, IsMember, IsLinearization, IsLinearized, IsReportLinearizable, RespectsRealTime, ReadsRegister}
-use Rattle.hy_quiet.proofs.Elements.{AllByRecursion-weaker, AllByRecursion-each, AllByRecursion-map, AllByRecursion-filter, AllByRecursion-both, AllByRecursion-passes}
+use Rattle.hy_order.proofs.Elements.{each}
+use Rattle.hy_quiet.proofs.Elements.{AllByRecursion-each, AllByRecursion-map, AllByRecursion-filter, AllByRecursion-both, AllByRecursion-passes}
 use Rattle.hy_quiet.proofs.Histories.{IsHistory-history_of, AllFinished-history_of}
 use Rattle.hy_quiet.proofs.Numbered.{numbers, each_found, listed-numbers, IsDistinct-numbers, Contains-numbers}
 use Rattle.hy_quiet.proofs.Ordered.{has_order-quiet_report}
@@ -42,7 +43,7 @@ module _ (history : List Operation) (key : List ℕ) (numbered : IsNumberedFrom 
   -- they are a linearization of the key, where all operations are finished and respect real time, and those of the key read its register
   IsLinearization-of_key : AllByRecursion (λ op. IsTrue (is_finished op.end)) history → RespectsRealTime history → ReadsRegister None (of_key history key) → IsLinearization history key (numbers (of_key history key))
   IsLinearization-of_key finished ordered reads = record {
-    complete = AllByRecursion-weaker history (λ op there both. there (and_parts _ _ both).0) (Contains-numbers (is_of_key key) history);
+    complete = each (λ op there both. there (and_parts _ _ both).0) history (Contains-numbers (is_of_key key) history);
     members = IsMember-of_key finished;
     distinct = IsDistinct-numbers (is_of_key key) 1 history numbered;
     real_time = subst RespectsRealTime (sym listed-of_key) (RespectsRealTime-filter (is_of_key key) history ordered);
@@ -52,7 +53,7 @@ module _ (history : List Operation) (key : List ℕ) (numbered : IsNumberedFrom 
 -- each order of the report of a quiet schedule is a linearization of its key, and each operation's key has one
 pub IsReportLinearizable-quiet_report : (events : List Event) → IsReportLinearizable (quiet_report events)
 IsReportLinearizable-quiet_report events = record {
-  keys = AllByRecursion-weaker (history_of events) (λ op ordered _. ordered) (has_order-quiet_report events);
+  keys = each (λ op ordered _. ordered) (history_of events) (has_order-quiet_report events);
   orders = AllByRecursion-map (IsLinearized (history_of events)) (order_of events) (keys_of events) (AllByRecursion-each (keys_of events) (λ key.
       IsLinearization-of_key (history_of events) key (IsHistory-history_of events).numbered (AllFinished-history_of events) (RespectsRealTime-history_of events) (ReadsRegister-history_of key events)));
 }

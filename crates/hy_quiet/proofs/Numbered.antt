@@ -5,7 +5,8 @@ use Rattle.std.specs.List.{AllByRecursion, IsDistinct, cons_option}
 use Rattle.hy_order.specs.declared.operation.Operation.{Operation}
 use Rattle.hy_order.specs.History.{IsNumberedFrom, IsHistory, is_end_of}
 use Rattle.hy_order.specs.Linearization.{operation_at, listed}
-use Rattle.hy_quiet.proofs.Elements.{AllByRecursion-push, AllByRecursion-weaker, AllByRecursion-both, AllByRecursion-filter, AllByRecursion-map}
+use Rattle.hy_order.proofs.Elements.{each}
+use Rattle.hy_quiet.proofs.Elements.{AllByRecursion-push, AllByRecursion-both, AllByRecursion-filter, AllByRecursion-map}
 
 pub IsNumberedFrom-push : (number : ℕ) (ops : List Operation) (op : Operation) → IsNumberedFrom number ops → op.number ≡ number + length ops → IsNumberedFrom number (ops ++ op ∷ [])
 IsNumberedFrom-push number [] op numbered next = (omega arith, tt)
@@ -24,7 +25,7 @@ numbers ops = map (λ op. op.number) ops
 numbers-from : (number : ℕ) (ops : List Operation) → IsNumberedFrom number ops → AllByRecursion (λ op. number ≤ op.number) ops
 numbers-from number [] numbered = tt
 numbers-from number (first ∷ ops) numbered =
-    (omega arith, AllByRecursion-weaker ops (λ op above. omega arith) (numbers-from (number + 1) ops numbered.1))
+    (omega arith, each (λ op above. omega arith) ops (numbers-from (number + 1) ops numbered.1))
 
 later_found : (first : Operation) (ops : List Operation) (op : Operation) → first.number < op.number → operation_at ops op.number ≡ Some op → operation_at (first ∷ ops) op.number ≡ Some op
 later_found first ops op above found = cond-false (first.number == op.number) _ _ (ne_eqb _ _ (λ same. omega arith)) ∙ found
@@ -50,7 +51,7 @@ IsDistinct-numbers p number (first ∷ ops) numbered =
     let rest : IsDistinct nat_eq (numbers (filter p ops)) = IsDistinct-numbers p (number + 1) ops numbered.1 in
     let above : AllByRecursion (λ op. number + 1 ≤ op.number) (filter p ops) = AllByRecursion-filter _ p ops (numbers-from (number + 1) ops numbered.1) in
     let other : AllByRecursion (λ op. nat_eq first.number op.number ≡ false) (filter p ops) =
-    AllByRecursion-weaker (filter p ops) (λ op higher. ne_eqb _ _ (λ same. omega arith)) above in
+    each (λ op higher. ne_eqb _ _ (λ same. omega arith)) (filter p ops) above in
     cond_both (p first) (first ∷ filter p ops) (filter p ops) (λ kept. IsDistinct nat_eq (numbers kept)) (λ _. (AllByRecursion-map _ (λ op. op.number) (filter p ops) other, rest)) (λ _. rest)
 
 Contains-first : (x : ℕ) (xs : List ℕ) → Contains (x ∷ xs) x
@@ -64,5 +65,5 @@ pub Contains-numbers : (p : Operation → Bool) (ops : List Operation) → AllBy
 Contains-numbers p [] = tt
 Contains-numbers p (first ∷ ops) = (
   λ passes. rw passes (Contains-first first.number (numbers (filter p ops))),
-  AllByRecursion-weaker ops (λ op there passes. cond_both (p first) (first ∷ filter p ops) (filter p ops) (λ kept. Contains (numbers kept) op.number) (λ _. Contains-later first.number (numbers (filter p ops)) op.number (there passes)) (λ _. there passes)) (Contains-numbers p ops),
+  each (λ op there passes. cond_both (p first) (first ∷ filter p ops) (filter p ops) (λ kept. Contains (numbers kept) op.number) (λ _. Contains-later first.number (numbers (filter p ops)) op.number (there passes)) (λ _. there passes)) ops (Contains-numbers p ops),
 )

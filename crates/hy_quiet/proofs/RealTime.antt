@@ -4,7 +4,8 @@ use Rattle.std.proofs.lemmas.Bool.{cond_both}
 use Rattle.std.specs.List.{AllByRecursion}
 use Rattle.hy_order.specs.declared.operation.Operation.{Operation}
 use Rattle.hy_order.specs.Linearization.{RespectsRealTime, returned_before}
-use Rattle.hy_quiet.proofs.Elements.{AllByRecursion-push, AllByRecursion-weaker, AllByRecursion-filter}
+use Rattle.hy_order.proofs.Elements.{each}
+use Rattle.hy_quiet.proofs.Elements.{AllByRecursion-push, AllByRecursion-filter}
 use Rattle.hy_quiet.proofs.Histories.{RunsAlone, along_history}
 use Rattle.hy_quiet.specs.declared.event.Event.{Event}
 use Rattle.hy_quiet.specs.Replay.{step_count, history_of}
@@ -29,13 +30,13 @@ record IsOrderedTo (steps : ℕ) (ops : List Operation) : Type 0 where
 IsOrderedTo-later : (start stop : ℕ) (ops : List Operation) → start ≤ stop → IsOrderedTo start ops → IsOrderedTo stop ops
 IsOrderedTo-later start stop ops later known = record {
   ordered = known.ordered;
-  invoked = AllByRecursion-weaker ops (λ op before. omega arith) known.invoked;
+  invoked = each (λ op before. omega arith) ops known.invoked;
 }
 
 IsOrderedTo-push : (number start stop : ℕ) (ops : List Operation) (op : Operation) → RunsAlone number start stop op → IsOrderedTo start ops → IsOrderedTo stop (ops ++ op ∷ [])
 IsOrderedTo-push number start stop ops op alone known = record {
-  ordered = RespectsRealTime-push ops op known.ordered (AllByRecursion-weaker ops (λ earlier before. alone.stays earlier.invoked (omega arith)) known.invoked);
-  invoked = AllByRecursion-push _ ops op (AllByRecursion-weaker ops (λ earlier before. omega arith) known.invoked) (omega arith);
+  ordered = RespectsRealTime-push ops op known.ordered (each (λ earlier before. alone.stays earlier.invoked (omega arith)) ops known.invoked);
+  invoked = AllByRecursion-push _ ops op (each (λ earlier before. omega arith) ops known.invoked) (omega arith);
 }
 
 IsOrderedTo-history_of : (events : List Event) → IsOrderedTo (step_count events) (history_of events)

@@ -7,27 +7,22 @@ use Rattle.std.proofs.lemmas.Bool.{and_parts, and_from, leb-true, leb-false, ltb
 use Rattle.std.proofs.lemmas.List.Sums.{sum_by-cons}
 use Rattle.std.proofs.lemmas.Slice.Eq.{bytes_eq-Decides}
 use Rattle.hy_base.specs.declared.fault.Cause.{Cause}
-use Rattle.hy_base.specs.declared.fault.Cause.TheVariants.{NoHeader, BadParams, TooManyOpen, TooManyLines, NoLineEnd}
+use Rattle.hy_base.specs.declared.fault.Cause.TheVariants.{NoHeader, BadParams, TooManyOpen, TooManyLines}
 use Rattle.hy_base.specs.declared.fault.TextError.{TextError}
 use Rattle.hy_base.specs.declared.fault.TextError.TheVariants as errors
 use Rattle.hy_base.specs.declared.fault.TextFault.{TextFault}
 use Rattle.hy_base.specs.declared.limits.TheConstants.{MAX_EVENTS, MAX_SESSIONS}
 use Rattle.hy_text.specs.Gives.{GivesText, at_line}
 use Rattle.hy_text.specs.Line.{Line, ended_line, text_of, lines_of, first_word, later_words, is_row}
-use Rattle.hy_text.specs.Slot.{◌>>=◌}
+use Rattle.hy_text.specs.Slot.{◌>>=◌, end_of_line}
 use Rattle.hy_text.proofs.Printed.{is_word-decimal, is_word-key, is_word-value_word}
 use Rattle.hy_text.proofs.Rows.{lines_of-text_of, text_of-lines_of}
-use Rattle.hy_text.proofs.Slots.{bind_ok, ok_is, words_from_first}
+use Rattle.hy_text.proofs.Slots.{bind_ok, ok_is, words_from_first, at_line_ok, ended_ok}
 use Rattle.hy_quiet.specs.declared.event.Event.{Event}
 use Rattle.hy_quiet.specs.declared.event.Event.TheVariants.{Open, Put, Get}
 use Rattle.hy_quiet.specs.Event.{joined_count}
-use Rattle.hy_quiet.specs.Schedule.{header_row, event_row, schedule_text, IsWritable, IsSchedule, IsQuiet, word_due, words_due, params_row, header_of, header_at, event_of, room_for, end_of_line, event_at, joined_with, events_from, schedule_at, schedule_of}
+use Rattle.hy_quiet.specs.Schedule.{header_row, event_row, schedule_text, IsWritable, IsSchedule, IsQuiet, word_due, words_due, params_row, header_of, header_at, event_of, room_for, event_at, joined_with, events_from, schedule_at, schedule_of}
 use Rattle.hy_quiet.proofs.EventRows.{Spells, event_takes, event_again}
-
--- the value of a line that is not at fault
-at_line_ok : {A : Type 0} (number : ℕ) (read : Result A Cause) (x : A) → at_line number read ≡ Ok x → read ≡ Ok x
-at_line_ok number (Ok y) x e = cc
-at_line_ok number (Err cause) x e = absurd cc
 
 abbrev tested : Bool → Cause → Result (Unit {0}) Cause
 tested t cause = cond t (Ok tt) (Err cause)
@@ -72,8 +67,8 @@ header_words words u e =
 header_takes : (line : Line) (u : Unit {0}) → header_at line ≡ Ok u → (line.words ≡ header_row) × (line.ended ≡ true)
 unfolding header_at
 header_takes line u e =
-    let words = bind_ok (header_of line.words) (λ _. end_of_line line) u e in
-    (header_words line.words words.0 words.1, tested_ok line.ended NoLineEnd u words.2)
+    let words = bind_ok (header_of line.words) (λ _. end_of_line line.ended) u e in
+    (header_words line.words words.0 words.1, ended_ok line.ended u words.2)
 
 header_again : header_at (ended_line header_row) ≡ Ok tt
 unfolding header_at header_of
@@ -107,13 +102,13 @@ unfolding event_at
 line_takes count joined line event within e =
     let counts = counted (nat_le MAX_EVENTS count) TooManyLines _ event e in
     let words = bind_ok (event_of line.words) _ event counts.1 in
-    let room = bind_ok (room_for joined words.0) (λ _. end_of_line line >>= λ _. Ok words.0) event words.2 in
-    let end = bind_ok (end_of_line line) (λ _. Ok words.0) event room.2 in
+    let room = bind_ok (room_for joined words.0) (λ _. end_of_line line.ended >>= λ _. Ok words.0) event words.2 in
+    let end = bind_ok (end_of_line line.ended) (λ _. Ok words.0) event room.2 in
     let below = leb-false MAX_EVENTS count counts.0 in
     subst (IsEventLine count joined line) (ok_is words.0 event end.2)
     (record {
       words = event_takes line.words words.0 words.1;
-      ended = tested_ok line.ended NoLineEnd end.0 end.1;
+      ended = ended_ok line.ended end.0 end.1;
       few = omega arith;
       room = room_takes joined words.0 room.0 within room.1;
     })

@@ -4,13 +4,13 @@ use Rattle.std.specs.List.{AllByRecursion}
 use Rattle.std.specs.Fmt.{decimal}
 use Rattle.std.specs.Str.{bytes_eq}
 use Rattle.hy_base.specs.declared.fault.Cause.{Cause}
-use Rattle.hy_base.specs.declared.fault.Cause.TheVariants.{NoHeader, BadParams, BadWord, TooManyOpen, TooManyLines, NoLineEnd}
+use Rattle.hy_base.specs.declared.fault.Cause.TheVariants.{NoHeader, BadParams, BadWord, TooManyOpen, TooManyLines}
 use Rattle.hy_base.specs.declared.fault.TextFault.{TextFault}
 use Rattle.hy_base.specs.declared.limits.TheConstants.{MAX_EVENTS, MAX_SESSIONS, MAX_TEXT_VALUE}
 use Rattle.hy_record.specs.Key.{is_key}
 use Rattle.hy_text.specs.Gives.{at_line}
 use Rattle.hy_text.specs.Line.{Line, text_of, lines_of, first_word, later_words}
-use Rattle.hy_text.specs.Slot.{◌>>=◌, number_of, value_of, key_word, end_of, value_word}
+use Rattle.hy_text.specs.Slot.{◌>>=◌, number_of, value_of, key_word, end_of, value_word, end_of_line}
 use Rattle.hy_text.specs.Hex.{IsBytes}
 use Rattle.hy_quiet.specs.declared.event.Event.{Event}
 use Rattle.hy_quiet.specs.declared.event.Event.TheVariants.{Open, Put, Get}
@@ -115,10 +115,6 @@ event_of words =
 abbrev pub room_for : ℕ → Event → Result (Unit {0}) Cause
 room_for joined event = if is_open event && nat_le MAX_SESSIONS joined then Err TooManyOpen else Ok tt
 
--- the line has its end
-abbrev pub end_of_line : Line → Result (Unit {0}) Cause
-end_of_line line = if line.ended then Ok tt else Err NoLineEnd
-
 -- an event line, behind so many event lines and so many clients that joined
 unfoldable pub event_at : ℕ → ℕ → Line → Result Event Cause
 event_at count joined line =
@@ -126,7 +122,7 @@ event_at count joined line =
     else
     event_of line.words >>= λ event.
     room_for joined event >>= λ _.
-    end_of_line line >>= λ _.
+    end_of_line line.ended >>= λ _.
     Ok event
 
 -- how many clients joined, with this event
@@ -143,7 +139,7 @@ events_from count joined (line ∷ lines) =
 
 -- the first line
 unfoldable pub header_at : Line → Result (Unit {0}) Cause
-header_at line = header_of line.words >>= λ _. end_of_line line
+header_at line = header_of line.words >>= λ _. end_of_line line.ended
 
 -- the lines of a schedule
 unfoldable pub schedule_at : List Line → Result (List Event) TextFault

@@ -13,7 +13,6 @@ ghost use Rattle.hy_quiet.specs.Schedule.{
   IsSchedule,
   action_of,
   do_of,
-  end_of_line,
   event_at,
   event_of,
   event_row,
@@ -37,8 +36,8 @@ use hy_base::{
 };
 use hy_record::Key;
 use hy_text::{
-    Line, LineError, Lines, Words, push_key, push_number, push_value, read_key, read_u32,
-    read_value,
+    Line, LineError, Lines, Words, check_line_end, push_key, push_number, push_value, read_key,
+    read_u32, read_value,
 };
 use std::alloc::Global;
 
@@ -175,7 +174,7 @@ fn read_event(alloc: Global, count: u32, joined: u32, line: &mut Line) -> Result
     }
     let event = read_event_words(alloc, &mut line.words)?;
     check_room(joined, &event)?;
-    check_end(line)?;
+    check_line_end(line.ended)?;
     Ok(event)
 }
 
@@ -190,24 +189,13 @@ fn check_room(joined: u32, event: &Event) -> Result<(), Cause>
     }
 }
 
-/// Whether a line feed ends the line.
-fn check_end(line: &Line) -> Result<(), Cause>
-    ensures { result ≡ end_of_line (line_seen line.now) }
-{
-    if line.ended {
-        Ok(())
-    } else {
-        Err(Cause::NoLineEnd)
-    }
-}
-
 /// Reads the first line.
 #[tactic(auto, unfolding(crate::specs::Schedule::header_at))]
 fn read_header(line: &mut Line) -> Result<(), Cause>
     ensures { result ≡ header_at (line_seen line.old) }
 {
     read_header_words(&mut line.words)?;
-    check_end(line)
+    check_line_end(line.ended)
 }
 
 /// Reads the words of the first line.

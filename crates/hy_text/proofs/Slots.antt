@@ -1,11 +1,12 @@
 -- Chains of slots: what each link says where the whole chain takes a row.
-use Rattle.std.proofs.Common.{◌≡◌, ℕ, ◌<◌, Bool, true, false, cond, List, [], ◌∷◌, length, Result, Ok, Err, refl, ap, arith}
+use Rattle.std.proofs.Common.{◌≡◌, ℕ, ◌<◌, ◌⊎◌, Bool, true, false, cond, List, [], ◌∷◌, length, Result, Ok, Err, refl, ap, arith, inl, inr}
 use Rattle.std.specs.Str.{bytes_eq}
 use Rattle.std.proofs.lemmas.Slice.Eq.{bytes_eq-Decides}
 use Rattle.hy_base.specs.declared.fault.Cause.{Cause}
 use Rattle.hy_base.specs.declared.fault.Cause.TheVariants.{BadWord}
+use Rattle.hy_text.specs.Gives.{at_line}
 use Rattle.hy_text.specs.Line.{first_word, later_words}
-use Rattle.hy_text.specs.Slot.{◌>>=◌, keyword, end_of}
+use Rattle.hy_text.specs.Slot.{◌>>=◌, keyword, end_of, end_of_line}
 
 -- the value of the first reader, where both answered one
 pub bind_ok : {A B E : Type 0} (read : Result A E) (next : A → Result B E) (y : B) → (read >>= next) ≡ Ok y → (x : A) × (read ≡ Ok x) × (next x ≡ Ok y)
@@ -43,3 +44,22 @@ end_takes (word ∷ words) u e = absurd cc
 pub words_from_first : (words : List (List ℕ)) (word : List ℕ) → first_word words ≡ word → 0 < length word → words ≡ word ∷ later_words words
 words_from_first [] word e some = absurd (omega (arith, ap length e))
 words_from_first (first ∷ words) word e some = ap (λ (w : List ℕ). w ∷ words) e
+
+-- a choice by a keyword took one of its ways
+pub chosen : {A E : Type 0} (b : Bool) (here other : Result A E) (x : A) → cond b here other ≡ Ok x → ((b ≡ true) × (here ≡ Ok x)) ⊎ (other ≡ Ok x)
+chosen true here other x e = inl (refl, e)
+chosen false here other x e = inr e
+
+-- the keyword stands in front of the words behind it
+pub behind : (words : List (List ℕ)) (keyword : List ℕ) → bytes_eq (first_word words) keyword ≡ true → 0 < length keyword → words ≡ keyword ∷ later_words words
+behind words keyword e some = words_from_first words keyword ((bytes_eq-Decides (first_word words) keyword).0 e) some
+
+-- a line that is not at fault has its end
+pub ended_ok : (ended : Bool) (u : Unit {0}) → end_of_line ended ≡ Ok u → ended ≡ true
+ended_ok true u e = refl
+ended_ok false u e = absurd cc
+
+-- the value of a line that is not at fault
+pub at_line_ok : {A : Type 0} (number : ℕ) (read : Result A Cause) (x : A) → at_line number read ≡ Ok x → read ≡ Ok x
+at_line_ok number (Ok y) x e = cc
+at_line_ok number (Err cause) x e = absurd cc

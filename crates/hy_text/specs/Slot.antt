@@ -8,7 +8,7 @@ use Rattle.std.specs.Str.Parse.{digits_value}
 use Rattle.hex.specs.Hex.{encode_lower}
 use Rattle.hy_base.specs.declared.fault.Cause.{Cause}
 use Rattle.hy_record.specs.Key.{is_key}
-use Rattle.hy_base.specs.declared.fault.Cause.TheVariants.{BadWord, BadNumber, BadHex, BadKey, LongValue, Extra}
+use Rattle.hy_base.specs.declared.fault.Cause.TheVariants.{BadWord, BadNumber, BadHex, BadKey, LongValue, Extra, NoLineEnd}
 
 -- the next reader, where this one answered a value; else the fault of this one
 infixl 10 ◌>>=◌
@@ -24,6 +24,10 @@ keyword due word = if bytes_eq word due then Ok tt else Err BadWord
 abbrev pub end_of : List (List ℕ) → Result (Unit {0}) Cause
 end_of [] = Ok tt
 end_of (word ∷ words) = Err Extra
+
+-- a line feed ends the line
+abbrev pub end_of_line : Bool → Result (Unit {0}) Cause
+end_of_line ended = if ended then Ok tt else Err NoLineEnd
 
 -- ---- numbers
 

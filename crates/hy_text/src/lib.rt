@@ -12,7 +12,7 @@ mod word;
 pub use cause::cause_name;
 pub use error::LineError;
 pub use key::{push_key, read_key};
-pub use line::{Line, Lines};
+pub use line::{Line, Lines, check_line_end};
 pub use number::{push_number, read_number, read_u32};
 pub use value::{push_value, read_value};
 pub use word::{Words, read_keyword};

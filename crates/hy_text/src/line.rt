@@ -2,8 +2,10 @@
 
 ghost use Rattle.std.specs.Prelude.{◌≡◌, [], ◌∷◌, MatchOption};
 ghost use Rattle.hy_text.specs.Line.{lines_of};
+ghost use Rattle.hy_text.specs.Slot.{end_of_line};
 
 use crate::word::{Words, cut_at};
+use hy_base::Cause;
 use std::marker::Model;
 
 /// A line of a text.
@@ -82,4 +84,11 @@ impl<'a> Iterator for Lines<'a> {
         self.rest = rest;
         Some(line)
     }
+}
+
+/// Whether a line feed ends the line.
+pub fn check_line_end(ended: bool) -> Result<(), Cause>
+    ensures { result ≡ end_of_line ended }
+{
+    if ended { Ok(()) } else { Err(Cause::NoLineEnd) }
 }
