@@ -244,10 +244,8 @@ fn names_at_the_edges(rt: HostRuntime) -> Result<(), Fail> {
             name_of(alloc, &key, stamp).ok().ok_or("a name")?.bytes() == name.as_bytes(),
             "{name}"
         );
-        match read_name(name.as_bytes()) {
-            Some((read, at)) => assert!(rt; read == key && at == stamp, "{name}"),
-            None => assert!(rt; false, "{name}"),
-        }
+        let (read, at) = read_name(name.as_bytes()).ok_or("a key and a timestamp")?;
+        assert!(rt; read == key && at == stamp, "{name}");
     }
     for name in [
         "/o/a/ffffffff00000001",
