@@ -123,7 +123,6 @@ fn record_of_abc_is_read_back(rt: HostRuntime) -> Result<(), Fail> {
     let alloc = rt.alloc();
     let stamp = Stamp::new(1, 1).ok_or("a stamp")?;
     let bytes = bytes_of(&rt, alloc, RECORD_OF_ABC);
-    assert_eq!(rt; bytes.len(), 50);
     let record = Record::value(alloc, stamp, 3, 0, 1, 1, &[sha(b"abc")])
         .ok()
         .ok_or("the record")?;
@@ -151,6 +150,7 @@ fn record_of_abc_is_read_back(rt: HostRuntime) -> Result<(), Fail> {
 fn record_bytes_and_faults(rt: HostRuntime) -> Result<(), Fail> {
     let alloc = rt.alloc();
     let bytes = bytes_of(&rt, alloc, RECORD_OF_ABC);
+    assert_eq!(rt; bytes.len(), 50);
     let shorter = bytes.get(..49).ok_or("49 bytes")?;
     assert!(rt; matches!(Record::decode(alloc, shorter), Err(RecordFault::Short(49))));
     let mut longer = bytes.clone()?;
