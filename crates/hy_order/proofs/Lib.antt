@@ -9,11 +9,11 @@ pub mod DueKeys
 pub mod WordRows
 pub mod CloudWords
 pub mod Fronts
-pub mod Spaced
 pub mod Elements
 pub mod SortedKeys
 mod Lines
 mod Clouds
+mod WrittenClouds
 mod Legal
 mod Illegal
 mod DueOrders

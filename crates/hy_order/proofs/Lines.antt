@@ -3,13 +3,12 @@ use Rattle.std.proofs.Common.{◌≡◌, ℕ, List, [], ◌∷◌, ◌++◌, map
 use Rattle.std.specs.Prelude.{codes}
 use Rattle.std.specs.Fmt.{decimal}
 use Rattle.hy_record.specs.Clouds.{clouds_of}
-use Rattle.hy_text.specs.Line.{line_text}
+use Rattle.hy_text.specs.Line.{line_text, led_by, spaced}
 use Rattle.hy_order.specs.declared.held.Held.{Held}
 use Rattle.hy_order.specs.declared.operation.Operation.{Operation}
 use Rattle.hy_order.specs.declared.order.Order.{Order}
 use Rattle.hy_order.specs.Report.{operation_row, order_row, held_row, action_words, end_words, stamp_words, cloud_word}
-use Rattle.hy_order.specs.Words.{led_by, spaced}
-use Rattle.hy_order.proofs.Spaced.{led_by-append, line_text-cons}
+use Rattle.hy_text.proofs.Spaced.{led_by-append, line_text-cons}
 
 -- words behind the first, written group by group
 line_of_groups : (old first a b c d : List ℕ) (words : List (List ℕ)) → spaced words ≡ a ++ (b ++ (c ++ d))

@@ -2,8 +2,7 @@
 
 ghost use Rattle.std.specs.Prelude.{◌≡◌, ◌++◌, IfOk, OnOk, codes, map, [], ◌∷◌};
 ghost use Rattle.std.specs.Fmt.{decimal};
-ghost use Rattle.hy_text.specs.Line.{line_text, text_of};
-ghost use Rattle.hy_text.specs.Slot.{value_word};
+ghost use Rattle.hy_text.specs.Line.{led_by, line_text, spaced, text_of};
 ghost use Rattle.hy_record.specs.Clouds.{clouds_of};
 ghost use Rattle.hy_order.specs.Report.{
   report_text,
@@ -18,7 +17,6 @@ ghost use Rattle.hy_order.specs.Report.{
   phase_word,
   cloud_word,
 };
-ghost use Rattle.hy_order.specs.Words.{led_by, spaced};
 
 use crate::held::Held;
 use crate::operation::{End, Operation};
@@ -26,7 +24,7 @@ use crate::order::Order;
 use crate::report::Report;
 use hy_base::{Blob, NoMemory};
 use hy_record::{Action, Phase, Reply, Stamp};
-use hy_text::{push_number, push_value};
+use hy_text::{push_number, push_number_word, push_value_word, push_word};
 use std::alloc::Global;
 
 /// The text of the report.
@@ -239,33 +237,6 @@ fn push_end_line(out: &mut Vec<u8>, report: &Report) -> Result<(), NoMemory>
     push_number_word(out, report.history.items().len() as u64)?;
     push_number_word(out, report.orders.items().len() as u64)?;
     push_line_end(out)?;
-    Ok(())
-}
-
-/// Appends a space and the word.
-fn push_word(out: &mut Vec<u8>, word: &[u8]) -> Result<(), NoMemory>
-    ensures { OnOk result (out.new.items ≡ out.old.items ++ 32 ∷ word.now) }
-{
-    out.push(b' ')?;
-    out.extend_from_slice(word)?;
-    Ok(())
-}
-
-/// Appends a space and the number.
-fn push_number_word(out: &mut Vec<u8>, number: u64) -> Result<(), NoMemory>
-    ensures { OnOk result (out.new.items ≡ out.old.items ++ 32 ∷ decimal number) }
-{
-    out.push(b' ')?;
-    push_number(out, number)?;
-    Ok(())
-}
-
-/// Appends a space and the value.
-fn push_value_word(out: &mut Vec<u8>, value: &[u8]) -> Result<(), NoMemory>
-    ensures { OnOk result (out.new.items ≡ out.old.items ++ 32 ∷ value_word value.now) }
-{
-    out.push(b' ')?;
-    push_value(out, value)?;
     Ok(())
 }
 

@@ -13,6 +13,15 @@ pub record Line : Type 0 where
 abbrev pub line_text : List (List ℕ) → List ℕ
 line_text words = join_with_byte 32 words ++ 10 ∷ []
 
+-- each word with the separator before it
+abbrev pub led_by : ℕ → List (List ℕ) → List ℕ
+led_by separator [] = []
+led_by separator (word ∷ words) = separator ∷ word ++ led_by separator words
+
+-- each word with a space before it, as behind the first of a line
+abbrev pub spaced : List (List ℕ) → List ℕ
+spaced words = led_by 32 words
+
 -- the rows as lines, one after the other
 abbrev pub text_of : List (List (List ℕ)) → List ℕ
 text_of rows = flat_map line_text rows

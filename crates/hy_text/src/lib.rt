@@ -8,6 +8,7 @@ mod line;
 mod number;
 mod value;
 mod word;
+mod writing;
 
 pub use cause::cause_name;
 pub use error::LineError;
@@ -16,6 +17,7 @@ pub use line::{Line, Lines, check_line_end};
 pub use number::{push_number, read_number, read_u32};
 pub use value::{push_value, read_value};
 pub use word::{Words, read_keyword};
+pub use writing::{push_number_word, push_value_word, push_word};
 
 #[cfg(test)]
 mod tests;

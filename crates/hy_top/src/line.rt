@@ -2,13 +2,13 @@
 
 ghost use Rattle.std.specs.Prelude.{◌≡◌, ◌∷◌, [], ◌++◌, IfOk, OnOk};
 ghost use Rattle.std.specs.Fmt.{decimal};
-ghost use Rattle.hy_order.specs.Words.{spaced};
+ghost use Rattle.hy_text.specs.Line.{spaced};
 ghost use Rattle.hy_top.specs.Line.{bad_input_line, legal_line, illegal_line, verdict_words};
 
 use hy_base::{Blob, NoMemory, TextFault};
 use hy_order::Verdict;
 use hy_record::Key;
-use hy_text::{cause_name, push_number};
+use hy_text::{cause_name, push_number_word, push_word};
 use std::alloc::Global;
 
 /// The line that names the first bad line of an input.
@@ -67,20 +67,4 @@ fn push_fault(line: &mut Vec<u8>, name: &[u8], number: u32) -> Result<(), NoMemo
 {
     push_word(line, name)?;
     push_number_word(line, number.into())
-}
-
-fn push_word(line: &mut Vec<u8>, word: &[u8]) -> Result<(), NoMemory>
-    ensures { OnOk result (line.new.items ≡ line.old.items ++ 32 ∷ word.now) }
-{
-    line.push(b' ')?;
-    line.extend_from_slice(word)?;
-    Ok(())
-}
-
-fn push_number_word(line: &mut Vec<u8>, number: u64) -> Result<(), NoMemory>
-    ensures { OnOk result (line.new.items ≡ line.old.items ++ 32 ∷ decimal number) }
-{
-    line.push(b' ')?;
-    push_number(line, number)?;
-    Ok(())
 }

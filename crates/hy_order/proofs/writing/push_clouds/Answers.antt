@@ -1,5 +1,5 @@
 -- The clouds behind the first are led by commas.
-use Rattle.hy_order.proofs.Spaced.{cloud_word_joined}
+use Rattle.hy_order.proofs.WrittenClouds.{cloud_word_joined}
 use Rattle.hy_order.proofs.writing.push_clouds.Goals as goal
 
 pub returns : goal.returns

@@ -1,7 +1,7 @@
 -- The numbers so far.
 use Rattle.std.proofs.Common.{◌≡◌, ◌++◌, map, take}
 use Rattle.std.specs.Fmt.{decimal}
-use Rattle.hy_order.specs.Words.{led_by}
+use Rattle.hy_text.specs.Line.{led_by}
 use Rattle.hy_order.proofs.writing.push_numbers.Given as goal
 
 abbrev pub invariant-loop-number : goal.invariant-loop-number

@@ -1,10 +1,7 @@
 -- Words behind the first of a line, joined.
-use Rattle.std.proofs.Common.{◌≡◌, ℕ, List, [], ◌∷◌, ◌++◌, map, refl, ap, sym, ◌∙◌, append_assoc, append-nil}
+use Rattle.std.proofs.Common.{◌≡◌, ℕ, List, [], ◌∷◌, ◌++◌, refl, ap, sym, ◌∙◌, append_assoc, append-nil}
 use Rattle.std.specs.List.{join_with_byte}
-use Rattle.hy_text.specs.Line.{line_text}
-use Rattle.std.specs.Fmt.{decimal}
-use Rattle.hy_order.specs.Report.{cloud_word}
-use Rattle.hy_order.specs.Words.{led_by, spaced}
+use Rattle.hy_text.specs.Line.{led_by, line_text, spaced}
 
 pub led_by-append : (separator : ℕ) (xs ys : List (List ℕ)) → led_by separator (xs ++ ys) ≡ led_by separator xs ++ led_by separator ys
 led_by-append separator [] ys = refl
@@ -24,12 +21,3 @@ led_by-more separator old front words word before =
     ap (λ bytes. bytes ++ separator ∷ word) before
     ∙ append_assoc old (led_by separator words) (separator ∷ word)
     ∙ ap (λ rest. old ++ rest) (ap (λ rest. led_by separator words ++ separator ∷ rest) (sym (append-nil word)) ∙ sym (led_by-append separator words (word ∷ [])))
-
--- a list of clouds, written as its first number and then the others led by commas
-pub cloud_word_joined : (old x1 x2 : List ℕ) (clouds rest : List ℕ) (first : ℕ) → clouds ≡ first ∷ rest
-    → x1 ≡ old ++ 32 ∷ decimal first → x2 ≡ x1 ++ led_by 44 (map decimal rest) → x2 ≡ old ++ 32 ∷ cloud_word clouds
-cloud_word_joined old x1 x2 clouds rest first is e1 e2 =
-    e2 ∙ ap (λ bytes. bytes ++ led_by 44 (map decimal rest)) e1
-    ∙ append_assoc old (32 ∷ decimal first) (led_by 44 (map decimal rest))
-    ∙ ap (λ word. old ++ 32 ∷ word) (sym (join_with_byte-cons 44 (decimal first) (map decimal rest)))
-    ∙ ap (λ xs. old ++ 32 ∷ cloud_word xs) (sym is)
