@@ -17,8 +17,7 @@ pub fn bad_input_line(alloc: Global, fault: TextFault) -> Result<Blob, NoMemory>
 {
     let mut line = Vec::from_slice(alloc, b"bad input")?;
     push_number_word(&mut line, fault.line.into())?;
-    line.push(b' ')?;
-    line.extend_from_slice(cause_name(fault.cause).as_bytes())?;
+    push_word(&mut line, cause_name(fault.cause).as_bytes())?;
     line.push(b'\n')?;
     Ok(Blob::of(line))
 }
@@ -37,8 +36,8 @@ pub fn legal_line(alloc: Global, count: usize) -> Result<Blob, NoMemory>
 pub fn illegal_line(alloc: Global, key: &Key, verdict: Verdict) -> Result<Blob, NoMemory>
     ensures { IfOk result (λ text. text ≡ illegal_line key.now verdict) }
 {
-    let mut line = Vec::from_slice(alloc, b"illegal ")?;
-    line.extend_from_slice(key.bytes())?;
+    let mut line = Vec::from_slice(alloc, b"illegal")?;
+    push_word(&mut line, key.bytes())?;
     push_verdict(&mut line, verdict)?;
     line.push(b'\n')?;
     Ok(Blob::of(line))
