@@ -130,8 +130,7 @@ fn worked_replays_answer_as_they_should(rt: HostRuntime) -> Result<(), Fail> {
 }
 
 #[test]
-fn worked_checks_answer_as_they_should(rt: HostRuntime) -> Result<(), Fail> {
-    let early = illegal("a", Verdict::Early(1, 2))?;
+fn checks_are_refused_as_replays_are(rt: HostRuntime) -> Result<(), Fail> {
     let mut failing_read = check_of(ITS_REPORT, Status::ReadFault, "read fault\n");
     failing_read.failing_read = 1;
     let mut failing_write = check_of(TWO_PUTS_SWAPPED, Status::WriteFault, "");
@@ -144,9 +143,7 @@ fn worked_checks_answer_as_they_should(rt: HostRuntime) -> Result<(), Fail> {
         &rt,
         rt.alloc(),
         &[
-            check_of(ITS_REPORT, Status::Done, "legal 1\n"),
             check_of("end 0 0\n", Status::Done, "legal 0\n"),
-            check_of(TWO_PUTS_SWAPPED, early, "illegal a early 1 2\n"),
             check_of("", bad_input(1, Cause::NoEnd), "bad input 1 NoEnd\n"),
             check_of(
                 PUT_THEN_GET,
@@ -157,6 +154,39 @@ fn worked_checks_answer_as_they_should(rt: HostRuntime) -> Result<(), Fail> {
             failing_write,
             longest,
             too_long,
+        ],
+    )
+}
+
+#[test]
+fn checker_real_time(rt: HostRuntime) -> Result<(), Fail> {
+    let early = illegal("a", Verdict::Early(1, 2))?;
+    let row = check_of(TWO_PUTS_SWAPPED, early, "illegal a early 1 2\n");
+    all_answer(&rt, rt.alloc(), &[row])
+}
+
+#[test]
+fn checker_verdicts(rt: HostRuntime) -> Result<(), Fail> {
+    all_answer(
+        &rt,
+        rt.alloc(),
+        &[
+            check_of(ITS_REPORT, Status::Done, "legal 1\n"),
+            check_of(
+                "op 1 1 put a 616263 2 8 done 1 1\nop 2 1 get a 9 13 value 616263 1 1\norder a 1 2\nheld a 1 1 0\n",
+                bad_input(5, Cause::NoEnd),
+                "bad input 5 NoEnd\n",
+            ),
+            check_of(
+                "op 1 1 put a 616263 2 8 done 1 1\nop 2 1 get a 9 13 value 616263 1 1\norder a 1\nheld a 1 1 0\nend 2 1\n",
+                illegal("a", Verdict::Missing(2))?,
+                "illegal a missing 2\n",
+            ),
+            check_of(
+                "op 1 1 put a 616263 2 8 done 1 1\nop 2 1 get a 9 13 value 616263 1 1\norder a 2 1\nheld a 1 1 0\nend 2 1\n",
+                illegal("a", Verdict::Early(1, 2))?,
+                "illegal a early 1 2\n",
+            ),
         ],
     )
 }
