@@ -23,7 +23,7 @@ const HELD: &[u8] = b"op 1 1 put a - 1 7 done 1 1\norder a 1\nheld a 1 1 0\n";
 const ENDED: &[u8] = b"op 1 1 put a - 1 7 done 1 1\norder a 1\nheld a 1 1 0\nend 1 1\n";
 
 /// Lines of a second operation, each with the cause of its first bad word.
-const BAD_OPERATIONS: [(&[u8], Cause); 22] = [
+const BAD_OPERATIONS: [(&[u8], Cause); 25] = [
     (b"op 3 1 get a 8 - read 0 1", Cause::BadNumber),
     (b"op 02 1 get a 8 - read 0 1", Cause::BadNumber),
     (b"op  2 1 get a 8 - read 0 1", Cause::BadNumber),
@@ -49,6 +49,12 @@ const BAD_OPERATIONS: [(&[u8], Cause); 22] = [
     (b"op 2 1 delete a 8 - store 0 1", Cause::BadWord),
     (b"op 2 1 get a 8 9 none 4294967295 0", Cause::BadNumber),
     (b"op 2 1 get a 8 9 none 0 4294967296", Cause::BadNumber),
+    (
+        b"op 2 1 collect a 8 9 collected 4294967296",
+        Cause::BadNumber,
+    ),
+    (b"op 2 1 get a 8 - read 4294967296 1", Cause::BadNumber),
+    (b"op 2 1 get a 8 - read 0 4294967296", Cause::BadNumber),
     (b"op 2 1 get a 8 - read 0", Cause::BadNumber),
     (b"op 2 1 get a 8 - read 0 1 ", Cause::Extra),
     (b"op 2 1 get a 8 - read 0 1\r", Cause::BadNumber),
@@ -98,6 +104,8 @@ fn report_is_read_and_written(rt: HostRuntime) -> Result<(), Fail> {
         WHOLE,
         b"end 0 0\n".as_slice(),
         b"op 1 4294967295 delete a 9223372036854775807 9223372036854775808 exhausted 4294967294 4294967295\norder a 1\nheld a 4294967294 4294967295 0,1,2,3,4,5,6,7,8,9\nend 1 1\n".as_slice(),
+        b"op 1 1 get a 9223372036854775808 - read 4294967295 4294967295\norder a\nend 1 1\n".as_slice(),
+        b"op 1 1 collect a 1 2 collected 4294967295\nend 1 0\n".as_slice(),
     ] {
         let report = read_report(rt.alloc(), text)?;
         let written = write_report(rt.alloc(), &report)?;
