@@ -1,5 +1,6 @@
 -- Records: what the metadata service keeps of a key.
-use Rattle.std.specs.Prelude.{◌≡◌, ◌≢◌, ℕ, ◌^◌, ◌<◌, ◌≤◌, Bool, ◌&&◌, ◌==◌, nat_lt, nat_le, List, [], length, All, IsTrue, Option, Some, None, slice_get, count_ones, if◌then◌else◌}
+use Rattle.std.specs.Prelude.{◌≡◌, ◌≢◌, ℕ, ◌^◌, ◌<◌, ◌≤◌, Bool, true, false, not, ◌&&◌, ◌==◌, nat_lt, nat_le, List, [], length, All, IsTrue, Option, Some, None, slice_get, count_ones, if◌then◌else◌}
+use Rattle.std.specs.Str.{bytes_eq}
 use Rattle.sha2.specs.Sha256.{sha256}
 use Rattle.hy_base.specs.declared.limits.TheConstants.{MAX_F, MAX_K, MAX_VALUE}
 use Rattle.hy_record.specs.declared.kind.Kind.{Kind}
@@ -77,6 +78,20 @@ hash_among Coded hashes i = slice_get hashes i
 -- the hash of what this cloud holds; none for a deletion, or where there is no such cloud
 abbrev pub hash_of : RecordValue → ℕ → Option (List ℕ)
 hash_of r i = if nat_lt i (cloud_count r.f r.k) then hash_among r.kind r.hashes i else None
+
+abbrev pub is_tombstone : Kind → Bool
+is_tombstone Tomb = true
+is_tombstone Whole = false
+is_tombstone Coded = false
+
+abbrev pub is_hash : Option (List ℕ) → List ℕ → Bool
+is_hash None bytes = false
+is_hash (Some hash) bytes = bytes_eq hash (sha256 bytes)
+
+-- the bytes are what this cloud was given to hold, as a test
+unfoldable pub is_valid_fragment : RecordValue → ℕ → List ℕ → Bool
+is_valid_fragment r i bytes =
+    not (is_tombstone r.kind) && nat_lt i (cloud_count r.f r.k) && (length bytes == fragment_size r.size r.k) && is_hash (hash_of r i) bytes
 
 -- the bytes are what this cloud was given to hold
 pub record IsValidFragment (r : RecordValue) (i : ℕ) (bytes : List ℕ) : Type 0 where

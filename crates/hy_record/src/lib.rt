@@ -2,6 +2,7 @@
 #![tactic(auto)]
 
 mod action;
+mod cloud;
 mod hash;
 mod key;
 mod kind;
@@ -10,8 +11,10 @@ mod name;
 mod record;
 mod stamp;
 mod stamps;
+mod turn;
 
 pub use action::{Action, Phase, Reply};
+pub use cloud::{CloudAct, CloudAsk, CloudReply, CloudSay, Wish};
 pub use hash::{Hash, sha};
 pub use key::{Key, KeyFault};
 pub use kind::Kind;
@@ -22,6 +25,7 @@ pub use record::{
 };
 pub use stamp::Stamp;
 pub use stamps::{MAX_STAMPS, Stamps};
+pub use turn::{Cue, Out, Outs, Turn};
 
 #[cfg(test)]
 mod tests;

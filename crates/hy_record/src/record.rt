@@ -5,7 +5,7 @@ ghost use Rattle.hy_record.specs.Stamp.{IsWritten};
 ghost use Rattle.hy_record.specs.Clouds.{clouds_of};
 ghost use Rattle.hy_record.specs.Shape.{IsShape, cloud_count, quorum_size, fragment_size};
 ghost use Rattle.hy_record.specs.Hash.{IsHash};
-ghost use Rattle.hy_record.specs.Record.{RecordValue, IsRecord, tombstone, kind_of_parts, is_cloud_list, hash_count, hash_of, record_of_value, IsValidFragment};
+ghost use Rattle.hy_record.specs.Record.{RecordValue, IsRecord, tombstone, kind_of_parts, is_cloud_list, hash_count, hash_of, record_of_value, is_tombstone, is_valid_fragment, IsValidFragment};
 
 use crate::hash::{Hash, sha};
 use crate::kind::Kind;
@@ -179,11 +179,29 @@ impl Record {
 
     /// Whether the bytes are those that this cloud was given to hold.
     pub fn is_valid(&self, i: u8, bytes: &[u8]) -> bool
+        ensures value { result ≡ is_valid_fragment self.now i bytes.now }
+        ensures valid { IsTrue result ↔ IsValidFragment self.now i bytes.now }
+    {
+        self.verifies(i, bytes)
+    }
+
+    /// Whether the record has a hash for this cloud, and the bytes have its length and that hash.
+    fn verifies(&self, i: u8, bytes: &[u8]) -> bool
         ensures { IsTrue result ↔ IsValidFragment self.now i bytes.now }
     {
         match self.hash(i) {
             Some(hash) => bytes.len() == self.fragment_len() as usize && sha(bytes) == hash,
             None => false,
+        }
+    }
+
+    /// Whether the record is that of a deletion.
+    pub fn is_tomb(&self) -> bool
+        ensures { result ≡ is_tombstone self.now.kind }
+    {
+        match self.kind {
+            Kind::Tomb => true,
+            Kind::Whole | Kind::Coded => false,
         }
     }
 }

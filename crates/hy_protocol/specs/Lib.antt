@@ -1,0 +1,9 @@
+pub mod Inputs
+pub mod Write
+pub mod Read
+pub mod Collect
+pub mod Operations
+pub mod Progress
+pub mod Turns
+pub mod Session
+pub mod Cloud
