@@ -1,4 +1,5 @@
 pub mod Faults
+pub mod Shape
 pub mod Source
 pub mod Sink
 pub mod MemorySource
