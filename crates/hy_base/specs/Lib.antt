@@ -1,4 +1,5 @@
 pub mod Faults
+pub mod Results
 pub mod Source
 pub mod Sink
 pub mod MemorySource
