@@ -19,9 +19,11 @@ use Rattle.hy_record.specs.Stamp.{Timestamp, IsStamp, IsWritten}
 use Rattle.hy_record.specs.Hash.{HASH_SIZE, IsHash}
 use Rattle.hy_record.specs.Record.{RecordValue, IsRecord, most_bytes, most_faults, is_part_count, is_cloud_list, hash_count, tombstone}
 use Rattle.hy_record.specs.Spelling.{stamp_bytes, layout_bytes, kind_byte, value_bytes, record_bytes, SpellsKind, SpellsRecord}
-use Rattle.hy_record.specs.Reading.{◌>>=◌, Gives, IsLayout, field_at, stamp_at, layout_at, hash_at, hashes_at, value_at, body_at, version_at, kind_at, record_at, record_of}
+use Rattle.hy_base.specs.Results.{◌>>=◌}
+use Rattle.hy_base.proofs.Results.{bind_ok, ok_is}
+use Rattle.hy_record.specs.Reading.{Gives, IsLayout, field_at, stamp_at, layout_at, hash_at, hashes_at, value_at, body_at, version_at, kind_at, record_at, record_of}
 use Rattle.hy_record.proofs.Numbers.{IsBytes, IsBytes-drop}
-use Rattle.hy_record.proofs.Fields.{bind_ok, guard_false, guard_true, ok_is, Takes, Takes-then, field_takes, field_again}
+use Rattle.hy_record.proofs.Fields.{guard_false, guard_true, Takes, Takes-then, field_takes, field_again}
 
 -- ---- timestamps
 
