@@ -1,0 +1,3 @@
+pub mod Contents
+pub mod Sizes
+pub mod Standing
