@@ -214,6 +214,42 @@ impl Record {
     }
 }
 
+impl PartialEq for Record {
+    ghost use Rattle.std.specs.Prelude.{◌==◌};
+    ghost use Rattle.std.specs.Ordering.{on, eq_of_both};
+    ghost use Rattle.hy_record.specs.Spelling.{kind_byte};
+    ghost use Rattle.std.specs.Cmp.Lexicographic.{pointwise};
+    ghost use Rattle.std.specs.Cmp.Rules.{comparing};
+    ghost use Rattle.std.proofs.Common.{rules};
+
+    ghost eq = { eq_of_both (eq_of_both (on (λ r. r.stamp.sn) ◌==◌) (on (λ r. r.stamp.cid) ◌==◌))
+        (eq_of_both (on (λ r. kind_byte r.kind) ◌==◌)
+        (eq_of_both (on (λ r. r.size) ◌==◌)
+        (eq_of_both (on (λ r. r.f) ◌==◌)
+        (eq_of_both (on (λ r. r.k) ◌==◌)
+        (eq_of_both (on (λ r. r.clouds) ◌==◌)
+        (on (λ r. r.hashes) (pointwise (pointwise ◌==◌)))))))) };
+
+    ghost laws = { Prim.search (comparing, rules) depth 14 };
+
+    fn eq(&self, other: &Record) -> bool {
+        self.stamp == other.stamp
+            && self.kind == other.kind
+            && self.size == other.size
+            && self.f == other.f
+            && self.k == other.k
+            && self.clouds == other.clouds
+            && self.hashes == other.hashes
+    }
+}
+
+impl Eq for Record {
+    ghost use Rattle.std.specs.Cmp.Rules.{comparing};
+    ghost use Rattle.std.proofs.Common.{rules};
+
+    ghost laws = { Prim.search (comparing, rules) depth 14 };
+}
+
 /// A copy of the hashes.
 fn copied(alloc: Global, hashes: &[Hash]) -> Result<Vec<Hash>, NoMemory>
     ensures same { IfOk result (λ copy. copy.items ≡ hashes.now) }
