@@ -13,7 +13,7 @@ use Rattle.std.proofs.lemmas.List.Sums.{length-filter, sum_by-append}
 use Rattle.std.proofs.lemmas.Simd.{mask_l-lt, ones-mask_l}
 use Rattle.hy_record.specs.Clouds.{set_of}
 use Rattle.hy_record.specs.Record.{is_cloud_list}
-use Rattle.hy_record.specs.Shape.{cloud_count, quorum_size}
+use Rattle.hy_base.specs.Shape.{cloud_count, quorum_size}
 use Rattle.hy_meta.proofs.Rising.{cases_bool}
 use Rattle.hy_operation.proofs.Filters.{filter-passes}
 

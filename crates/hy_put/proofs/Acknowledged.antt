@@ -9,7 +9,7 @@ use Rattle.hy_record.specs.declared.turn.Cue.TheVariants as cues
 use Rattle.hy_record.specs.declared.turn.Turn.{Turn}
 use Rattle.hy_record.specs.Clouds.{set_of}
 use Rattle.hy_record.specs.Stamp.{Timestamp, stamp_eq}
-use Rattle.hy_record.specs.Shape.{cloud_count, quorum_size}
+use Rattle.hy_base.specs.Shape.{cloud_count, quorum_size}
 use Rattle.hy_record.specs.Record.{RecordValue, record_of_value}
 use Rattle.hy_protocol.specs.declared.plan.PutPlan.{PutPlan}
 use Rattle.hy_protocol.specs.Inputs.{is_answer, is_stored}

@@ -12,7 +12,7 @@ use Rattle.hy_record.specs.declared.turn.Out.TheVariants as outs
 use Rattle.hy_record.specs.declared.cloud.CloudAct.TheVariants as acts
 use Rattle.hy_record.specs.Clouds.{set_of}
 use Rattle.hy_record.specs.Stamp.{Timestamp, next_stamp}
-use Rattle.hy_record.specs.Shape.{IsShape, cloud_count, quorum_size}
+use Rattle.hy_base.specs.Shape.{IsShape, cloud_count, quorum_size}
 use Rattle.hy_record.specs.Record.{RecordValue, record_of_value}
 use Rattle.hy_meta.proofs.Rising.{cases_bool}
 use Rattle.hy_meta.specs.Service.{stamp_of_record}

@@ -8,7 +8,7 @@ use Rattle.hy_record.specs.declared.turn.Cue.{Cue}
 use Rattle.hy_record.specs.declared.turn.Out.{Out}
 use Rattle.hy_record.specs.declared.turn.Turn.{Turn}
 use Rattle.hy_record.specs.Stamp.{Timestamp}
-use Rattle.hy_record.specs.Shape.{cloud_count, quorum_size}
+use Rattle.hy_base.specs.Shape.{cloud_count, quorum_size}
 use Rattle.hy_record.specs.Record.{RecordValue, tombstone}
 use Rattle.hy_meta.specs.Service.{stamp_of_record}
 use Rattle.hy_protocol.specs.declared.plan.PutPlan.{PutPlan}

@@ -9,7 +9,7 @@ use Rattle.std.proofs.lemmas.List.FromFn.{get_or-map-range_with_len}
 use Rattle.sha2.specs.Sha256.{sha256}
 use Rattle.hy_code.specs.Fragments.{fragment_of}
 use Rattle.hy_record.specs.Stamp.{Timestamp}
-use Rattle.hy_record.specs.Shape.{cloud_count}
+use Rattle.hy_base.specs.Shape.{cloud_count}
 use Rattle.hy_record.specs.declared.turn.Out.{Out}
 use Rattle.hy_record.specs.declared.turn.Out.TheVariants as outs
 use Rattle.hy_record.specs.declared.cloud.CloudAct.TheVariants as acts

@@ -5,7 +5,7 @@ use Rattle.std.proofs.lemmas.Option.{none-some}
 use Rattle.hy_record.specs.declared.action.Phase.TheVariants as phases
 use Rattle.hy_record.specs.declared.action.Reply.{Reply}
 use Rattle.hy_record.specs.declared.turn.Cue.{Cue}
-use Rattle.hy_record.specs.Shape.{cloud_count, quorum_size}
+use Rattle.hy_base.specs.Shape.{cloud_count, quorum_size}
 use Rattle.hy_record.specs.Record.{RecordValue}
 use Rattle.hy_protocol.specs.declared.plan.PutPlan.{PutPlan}
 use Rattle.hy_protocol.specs.Write.{first_has, own_stamp, acknowledged_so_far, update_of, write_reply}

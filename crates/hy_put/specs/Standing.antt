@@ -2,7 +2,7 @@
 use Rattle.std.specs.Prelude.{◌≡◌, ℕ, ◌<◌, true, List, ◌∷◌, length, Option, Some, None, is_some, Result, MatchResult}
 use Rattle.std.specs.List.{list_any}
 use Rattle.hy_base.specs.declared.failure.NoMemory.{NoMemory}
-use Rattle.hy_record.specs.Shape.{quorum_size}
+use Rattle.hy_base.specs.Shape.{quorum_size}
 use Rattle.hy_record.specs.Record.{RecordValue}
 use Rattle.hy_record.specs.declared.turn.Cue.{Cue}
 use Rattle.hy_record.specs.declared.turn.Turn.{Turn}

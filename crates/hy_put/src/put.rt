@@ -1,7 +1,7 @@
 //! The machine of a put and of a delete.
 
 ghost use Rattle.std.specs.Prelude.{◌≡◌, ◌∷◌, ◌<◌, ◌≤◌, [], List, IfOk, IfErr, OnOk, OnErr, None};
-ghost use Rattle.hy_record.specs.Shape.{IsShape};
+ghost use Rattle.hy_base.specs.Shape.{IsShape};
 ghost use Rattle.hy_record.specs.declared.turn.Cue.{Cue};
 ghost use Rattle.hy_protocol.specs.declared.plan.PutPlan.{PutPlan};
 ghost use Rattle.hy_protocol.specs.Turns.{put_turn, put_progress};

@@ -2,7 +2,7 @@
 
 ghost use Rattle.std.specs.Prelude.{◌≡◌, ◌∷◌, [], ℕ, List, IfOk, IfSome, OnErr, Some, None, not, filter, true};
 ghost use Rattle.std.specs.List.{range_with_len};
-ghost use Rattle.hy_record.specs.Shape.{cloud_count};
+ghost use Rattle.hy_base.specs.Shape.{cloud_count};
 ghost use Rattle.hy_record.specs.Stamp.{Timestamp};
 ghost use Rattle.hy_record.specs.declared.message.MetaAsk.TheVariants as asks;
 ghost use Rattle.hy_record.specs.declared.message.MetaSay.TheVariants as says;
