@@ -10,7 +10,7 @@ ghost use Rattle.hy_record.specs.Record.{kind_of_parts, hash_count, is_cloud_lis
 ghost use Rattle.hy_operation.specs.Marks.{is_marked};
 
 use crate::fault::StartFault;
-use hy_base::{Blob, MAX_VALUE, NoMemory};
+use hy_base::{Blob, MAX_VALUE, NoMemory, cloud_count, quorum_size};
 use hy_code::{Fragments, split};
 use hy_operation::{Issuer, Marks};
 use hy_protocol::PutPlan;
@@ -59,7 +59,7 @@ impl Content {
         requires small { length value.now ≤ MAX_VALUE }
         ensures { IfOk result (λ content. Holds content f k value.now) }
     {
-        let n = 2 * f + k;
+        let n = cloud_count(f, k);
         let fragments = split(alloc, value, k, n)?;
         let hashes = if k == 1 {
             whole_hash(alloc, value)?
@@ -80,7 +80,7 @@ impl Content {
         ensures value { result ≡ cloud_count self.now.f self.now.k }
         ensures few { result ≤ 10 }
     {
-        2 * self.f + self.k
+        cloud_count(self.f, self.k)
     }
 
     /// How many clouds have to store the value.
@@ -88,7 +88,7 @@ impl Content {
         ensures value { result ≡ quorum_size self.now.f self.now.k }
         ensures few { result ≤ cloud_count self.now.f self.now.k }
     {
-        self.f + self.k
+        quorum_size(self.f, self.k)
     }
 
     /// The fragments of the clouds below this number that have not acknowledged, each to its cloud.
