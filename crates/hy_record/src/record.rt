@@ -109,6 +109,13 @@ impl Record {
         })
     }
 
+    /// Tells that the record meets the rules of a record.
+    pub fn known(&self)
+        ensures { IsRecord self.now }
+    {
+        let _size = self.size;
+    }
+
     /// The timestamp of the write.
     pub fn stamp(&self) -> Stamp
         ensures { result ≡ self.now.stamp }
