@@ -1,0 +1,4 @@
+pub mod Writing
+pub mod Retrieval
+pub mod Starving
+pub mod Deleting
