@@ -34,6 +34,7 @@ use Rattle.hy_theorems.proofs.Points.{point-timely}
 use Rattle.hy_theorems.proofs.Values.{IsCollisionFree}
 use Rattle.hy_theorems.proofs.Told.{ArePutBytes}
 use Rattle.hy_theorems.proofs.Linear.{IsMarkOf, IsWriteMark, mark-is, begun-are, IsAmongBegun, begun-in, picked, write-done, real-time, reads-register}
+use Rattle.hy_theorems.proofs.Placed.{orders-same}
 use Rattle.hy_theorems.proofs.Replies.{is_read_reply, write-replies, reply-fits, phase-fits}
 use Rattle.hy_theorems.proofs.Listing.{IsIn, in-contains, in-map, in-reverse, all-reverse, all-over, reverse-more, numbered-more, found-numbered, listed-all, in-picked, in-sorted, IsOther, AreOther, other-sorted, other-distinct}
 
@@ -124,7 +125,7 @@ is-history p t trace = record {
 
 module _ (p : Params) (t : List Deed) (trace : IsTrace p t) (key : List ℕ) where
   abbrev pub IsOf : Begun → Mark → Type 0
-  IsOf b m = IsMarkOf p t trace (point-timely p t trace) key b m
+  IsOf b m = IsMarkOf p t trace key b m
 
   abbrev pub Is : Mark → Type 0
   Is m = (b : Begun) × IsOf b m
@@ -133,7 +134,7 @@ module _ (p : Params) (t : List Deed) (trace : IsTrace p t) (key : List ℕ) whe
   marks = filter_map (mark_of p t key) (begun_of t)
 
   marks-are : AllByRecursion Is marks
-  marks-are = picked (mark_of p t key) (λ b. start_of b.client b.op t ≡ Some b.start) Is (begun_of t) (λ b m began is. (b, mark-is p t trace (point-timely p t trace) key b m began is)) (begun-are p t trace).0
+  marks-are = picked (mark_of p t key) (λ b. start_of b.client b.op t ≡ Some b.start) Is (begun_of t) (λ b m began is. (b, mark-is p t trace key b m began is)) (begun-are p t trace).0
 
   sorted-are : AllByRecursion Is (sorted_marks is_behind marks)
   sorted-are = all-sorted Is marks marks-are
@@ -142,7 +143,7 @@ module _ (p : Params) (t : List Deed) (trace : IsTrace p t) (key : List ℕ) whe
   of-key : (b : Begun) → key_of b.start.action ≡ key → IsTrue (is_of_key key (operation_of p t b))
   of-key b is = (bytes_eq-Decides (key_of_action b.start.action) key).1 (key-same b.start.action ∙ is)
 
-  write-listed : (b : Begun) (m : Mark) → IsOf b m → IsWriteMark p t trace (point-timely p t trace) key b m → (o : Option Return) → return_of p b.client b.op t ≡ o → IsTrue (may_be_listed b.start.action (end_of o (progress_of p.f p.k b.client b.op b.start.action (inputs_of b.client b.op t))))
+  write-listed : (b : Begun) (m : Mark) → IsOf b m → IsWriteMark p t trace key b m → (o : Option Return) → return_of p b.client b.op t ≡ o → IsTrue (may_be_listed b.start.action (end_of o (progress_of p.f p.k b.client b.op b.start.action (inputs_of b.client b.op t))))
   write-listed b m of w None is = ap is_write w.action_is ∙ write-is key w.value
   write-listed b m of w (Some r) is =
       let inputs = inputs_of b.client b.op t in
@@ -184,7 +185,7 @@ module _ (p : Params) (t : List Deed) (trace : IsTrace p t) (key : List ℕ) whe
       by_first : (o : Option Mark) → mark_of p t key b ≡ o → AllByRecursion (λ m. m.op.number ≤ n) (filter_map (mark_of p t key) ops) → AllByRecursion (λ m. m.op.number ≤ n) (cons_option o (filter_map (mark_of p t key) ops))
       by_first None is rest = rest
       by_first (Some m) is rest =
-          let here = number-is b m (mark-is p t trace (point-timely p t trace) key b m began.0 is) in
+          let here = number-is b m (mark-is p t trace key b m began.0 is) in
           let count = numbered.0 in
           (omega (arith, here, count, few), rest)
 
@@ -199,7 +200,7 @@ module _ (p : Params) (t : List Deed) (trace : IsTrace p t) (key : List ℕ) whe
       by_first : (o : Option Mark) → mark_of p t key b ≡ o → AreOther (filter_map (mark_of p t key) ops) → AreOther (cons_option o (filter_map (mark_of p t key) ops))
       by_first None is rest = rest
       by_first (Some m) is rest =
-          let here = number-is b m (mark-is p t trace (point-timely p t trace) key b m began.0 is) in
+          let here = number-is b m (mark-is p t trace key b m began.0 is) in
           let count = numbered.0 in
           (others m (length ops) (filter_map (mark_of p t key) ops) (omega (arith, here, count)) (low-numbers ops (length ops) (omega arith) numbered.1 began.1), rest)
 
@@ -263,7 +264,7 @@ module _ (p : Params) (t : List Deed) (trace : IsTrace p t) (key : List ℕ) whe
     where
       by_mark : HasMark b → Contains (map number_of (map op_of (sorted_marks is_behind marks))) (operation_of p t b).number
       by_mark has =
-          let of = mark-is p t trace (point-timely p t trace) key b has.0 began has.1 in
+          let of = mark-is p t trace key b has.0 began has.1 in
           let here : IsIn (sorted_marks is_behind marks) has.0 = in-sorted marks has.0 (in-picked (mark_of p t key) (begun_of t) b has.0 (among-in (begun_of t) b (begun-in b.client b.op t b.start began)) has.1) in
           let there : IsIn (map number_of (map op_of (sorted_marks is_behind marks))) has.0.op.number = in-map number_of (map op_of (sorted_marks is_behind marks)) has.0.op (in-map op_of (sorted_marks is_behind marks) has.0 here) in
           in-contains (map number_of (map op_of (sorted_marks is_behind marks))) (operation_of p t b).number (subst (λ (x : Operation). IsIn (map number_of (map op_of (sorted_marks is_behind marks))) x.number) of.op_is there)
@@ -272,12 +273,16 @@ module _ (p : Params) (t : List Deed) (trace : IsTrace p t) (key : List ℕ) whe
       by_return None is finished key_is = absurd (false≢true finished)
       by_return (Some r) is finished key_is = by_mark (has-mark b r began key_is is finished)
 
-  pub is-linearization : IsShape p.f p.k → IsCollisionFree p t → ArePutBytes t → IsLinearization (history_of p t) key (linearization_of p t key)
-  unfolding linearization_of
-  is-linearization shape free bytes_only = record {
+  stamp-linearization : IsShape p.f p.k → IsCollisionFree p t → ArePutBytes t → IsLinearization (history_of p t) key (map number_of (map op_of (sorted_marks is_behind marks)))
+  stamp-linearization shape free bytes_only = record {
     complete = history-all (λ op. IsTrue (is_of_key key op && is_finished op.end) → Contains (map number_of (map op_of (sorted_marks is_behind marks))) op.number) p t trace complete-one;
     members = members-are (sorted_marks is_behind marks) sorted-are;
     distinct = distinct-are;
-    real_time = subst RespectsRealTime (sym listed-is) (real-time p t trace (point-timely p t trace) key);
-    reads = subst (ReadsRegister None) (sym listed-is) (reads-register p t trace (point-timely p t trace) key shape free bytes_only);
+    real_time = subst RespectsRealTime (sym listed-is) (real-time p t trace key);
+    reads = subst (ReadsRegister None) (sym listed-is) (reads-register p t trace key shape free bytes_only);
   }
+
+  pub is-linearization : IsShape p.f p.k → IsCollisionFree p t → ArePutBytes t → IsLinearization (history_of p t) key (linearization_of p t key)
+  unfolding linearization_of
+  is-linearization shape free bytes_only =
+      subst (λ (ms : List Mark). IsLinearization (history_of p t) key (map number_of (map op_of ms))) (sym (orders-same p t trace key)) (stamp-linearization shape free bytes_only)

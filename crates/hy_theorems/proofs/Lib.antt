@@ -21,3 +21,7 @@ pub mod Holders
 pub mod Refreshes
 pub mod Answers
 pub mod Starved
+pub mod TopAt
+pub mod Overwritten
+pub mod ReadPoints
+pub mod Placed

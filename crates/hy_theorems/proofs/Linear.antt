@@ -36,6 +36,7 @@ pub use Rattle.hy_trace.specs.Order.{is_done, is_done_return, write_mark, reply_
 use Rattle.hy_trace.proofs.Growth.{Le, le-trans, top, or-cases, start-keeps, start-same}
 use Rattle.hy_theorems.proofs.Writes.{update-own}
 use Rattle.hy_theorems.proofs.Replies.{is_read_reply}
+use Rattle.hy_theorems.proofs.Points.{point-timely}
 use Rattle.hy_theorems.proofs.Invariant.{IsCovered}
 use Rattle.hy_theorems.proofs.Apart.{own-above, own-has, replies-by, replied-write, stamps-differ}
 use Rattle.hy_theorems.proofs.Values.{IsCollisionFree}
@@ -43,16 +44,16 @@ use Rattle.hy_theorems.proofs.Told.{ArePutBytes, IsServedWrite, IsFound, TellsFo
 use Rattle.hy_theorems.proofs.RealTime.{return-reply, returned-below, read-above, stamp_of_reply}
 use Rattle.hy_theorems.proofs.Ordering.{AreInTime, AreApart, InTime, Differs, all-each, all-inserted, all-sorted, sorted-ordered, ordered-real_time, op_of, IsLeft, IsMark, Finds, IsAbove, ordered-reads}
 
-behind-lt : (a b : Mark) → stamp_lt b.stamp a.stamp ≡ true → is_behind a b ≡ true
+pub behind-lt : (a b : Mark) → stamp_lt b.stamp a.stamp ≡ true → is_behind a b ≡ true
 unfolding is_behind stamp_lt
 behind-lt a b below = grind (arith, nat_tests)
 
-behind-le : (a b : Mark) → stamp_lt a.stamp b.stamp ≡ false → (b.reads < a.reads) ⊎ ((b.reads ≡ a.reads) × (b.point.step < a.point.step)) → is_behind a b ≡ true
+pub behind-le : (a b : Mark) → stamp_lt a.stamp b.stamp ≡ false → (b.reads < a.reads) ⊎ ((b.reads ≡ a.reads) × (b.point.step < a.point.step)) → is_behind a b ≡ true
 unfolding is_behind stamp_lt
 behind-le a b le (inl reads) = grind (arith, nat_tests)
 behind-le a b le (inr point) = let reads = point.0 in let less = point.1 in grind (arith, nat_tests)
 
-as-read : (c o : ℕ) (key : List ℕ) (inputs : List Cue) → (p : Params) → read_reply inputs ≡ replied p.f p.k c o (asked.Get key) inputs
+pub as-read : (c o : ℕ) (key : List ℕ) (inputs : List Cue) → (p : Params) → read_reply inputs ≡ replied p.f p.k c o (asked.Get key) inputs
 unfolding replied
 as-read c o key inputs p = refl
 
@@ -64,12 +65,14 @@ write-done plan inputs x reply own is =
     r.done x (ap (stamp_upon plan.client) (same_Some r.held has.0 (sym r.has ∙ has.1)) ∙ has.2)
 
 -- what a mark of the key is
-module _ (p : Params) (t : List Deed) (trace : IsTrace p t) (timely : (c o : ℕ) (s : Start) (r : Return) → start_of c o t ≡ Some s → s.action ≡ asked.Get (key_of s.action) → return_of p c o t ≡ Some r → (length s.before < version_made c o t) × (version_made c o t ≤ r.at)) (key : List ℕ) where
+module _ (p : Params) (t : List Deed) (trace : IsTrace p t) (key : List ℕ) where
   pub record IsWriteMark (b : Begun) (m : Mark) : Type 0 where
     pub value : Option (List ℕ)
     pub action_is : b.start.action ≡ write_action key value
     pub own : own_stamp (write_plan p.f p.k b.client b.op key value) (inputs_of b.client b.op t) ≡ Some m.stamp
+    pub listed : (is_done_return (return_of p b.client b.op t) || was_applied (served t) b.client b.op) ≡ true
     pub reads_is : m.reads ≡ 0
+    pub point_is : m.point ≡ write_point b.client b.op t
 
   pub record IsReadMark (b : Begun) (m : Mark) : Type 0 where
     pub ret : Return
@@ -89,16 +92,16 @@ module _ (p : Params) (t : List Deed) (trace : IsTrace p t) (timely : (c o : ℕ
 
   write-mark-is : (b : Begun) (m : Mark) (k : List ℕ) (value : Option (List ℕ)) → start_of b.client b.op t ≡ Some b.start → key_of b.start.action ≡ key → k ≡ key → b.start.action ≡ write_action k value → write_mark p t b k value ≡ Some m → IsMarkOf b m
   write-mark-is b m k value began key_is same action is =
-      by_own (own_stamp (write_plan p.f p.k b.client b.op k value) (inputs_of b.client b.op t)) refl
-      (only (is_done_return (return_of p b.client b.op t) || was_applied (served t) b.client b.op) (option_map _ (own_stamp (write_plan p.f p.k b.client b.op k value) (inputs_of b.client b.op t))) is)
+      (let parts = only (is_done_return (return_of p b.client b.op t) || was_applied (served t) b.client b.op) (option_map _ (own_stamp (write_plan p.f p.k b.client b.op k value) (inputs_of b.client b.op t))) is in
+      by_own (own_stamp (write_plan p.f p.k b.client b.op k value) (inputs_of b.client b.op t)) refl parts.0 parts.1)
     where
-      only : (test : Bool) (o : Option Mark) → cond test o None ≡ Some m → o ≡ Some m
-      only true o e = e
+      only : (test : Bool) (o : Option Mark) → cond test o None ≡ Some m → (test ≡ true) × (o ≡ Some m)
+      only true o e = (refl, e)
       only false o e = absurd (none-some m e)
 
-      by_own : (o : Option Timestamp) → own_stamp (write_plan p.f p.k b.client b.op k value) (inputs_of b.client b.op t) ≡ o → option_map (λ stamp. record { op = operation_of p t b; stamp = stamp; reads = 0; point = write_point b.client b.op t }) o ≡ Some m → IsMarkOf b m
-      by_own None own e = absurd (none-some m e)
-      by_own (Some x) own e =
+      by_own : (o : Option Timestamp) → own_stamp (write_plan p.f p.k b.client b.op k value) (inputs_of b.client b.op t) ≡ o → (is_done_return (return_of p b.client b.op t) || was_applied (served t) b.client b.op) ≡ true → option_map (λ stamp. record { op = operation_of p t b; stamp = stamp; reads = 0; point = write_point b.client b.op t }) o ≡ Some m → IsMarkOf b m
+      by_own None own listed e = absurd (none-some m e)
+      by_own (Some x) own listed e =
           let made = same_Some (record { op = operation_of p t b; stamp = x; reads = 0; point = write_point b.client b.op t }) m e in
           record {
             began = began;
@@ -108,7 +111,9 @@ module _ (p : Params) (t : List Deed) (trace : IsTrace p t) (timely : (c o : ℕ
               value = value;
               action_is = action ∙ ap (λ (y : List ℕ). write_action y value) same;
               own = ap (λ (y : List ℕ). own_stamp (write_plan p.f p.k b.client b.op y value) (inputs_of b.client b.op t)) (sym same) ∙ (own ∙ ap (λ (y : Mark). Some y.stamp) made);
+              listed = listed;
               reads_is = ap (λ (y : Mark). y.reads) (sym made);
+              point_is = ap (λ (y : Mark). y.point) (sym made);
             });
           }
 
@@ -208,8 +213,8 @@ module _ (p : Params) (t : List Deed) (trace : IsTrace p t) (timely : (c o : ℕ
                 (elim second.sort [
                   | inl write ↦ (let k1 = write.reads_is in let k2 = read.reads_is in inl (omega (arith, k1, k2)))
                   | inr other ↦ (
-                      let now = timely a.client a.op a.start read.ret first.began (read.action_is ∙ ap asked.Get (sym first.key_is)) read.returned in
-                      let ended = timely b.client b.op b.start r second.began (other.action_is ∙ ap asked.Get (sym second.key_is)) is in
+                      let now = point-timely p t trace a.client a.op a.start read.ret first.began (read.action_is ∙ ap asked.Get (sym first.key_is)) read.returned in
+                      let ended = point-timely p t trace b.client b.op b.start r second.began (other.action_is ∙ ap asked.Get (sym second.key_is)) is in
                       let p1 = ap (λ (x : Point). x.step) read.point_is in let p2 = ap (λ (x : Point). x.step) other.point_is in let low_ = now.0 in let high_ = ended.1 in
                       inr (other.reads_is ∙ sym read.reads_is, omega (arith, p1, p2, low_, high_, early)))
                 ])
@@ -397,7 +402,7 @@ writes-leave : (key : List ℕ) (value g : Option (List ℕ)) → register_after
 writes-leave key None g = refl
 writes-leave key (Some v) g = refl
 
-all-pairs : {A : Type 0} (P Q : A → Type 0) (xs : List A) → AllByRecursion P xs → AllByRecursion Q xs → AllByRecursion (λ a. P a × Q a) xs
+pub all-pairs : {A : Type 0} (P Q : A → Type 0) (xs : List A) → AllByRecursion P xs → AllByRecursion Q xs → AllByRecursion (λ a. P a × Q a) xs
 all-pairs P Q [] x y = tt
 all-pairs P Q (a ∷ as_) x y = ((x.0, y.0), all-pairs P Q as_ x.1 y.1)
 
@@ -423,15 +428,15 @@ silent-done : (x : Timestamp) (reply : Reply) (at : ℕ) (g : Option (List ℕ))
 silent-done x reply at g is = subst (λ (y : Reply). TellsRegister g (Replied at y)) is tt
 
 -- the order of a key's operations is a linearization
-module _ (p : Params) (t : List Deed) (trace : IsTrace p t) (timely : (c o : ℕ) (s : Start) (r : Return) → start_of c o t ≡ Some s → s.action ≡ asked.Get (key_of s.action) → return_of p c o t ≡ Some r → (length s.before < version_made c o t) × (version_made c o t ≤ r.at)) (key : List ℕ) where
+module _ (p : Params) (t : List Deed) (trace : IsTrace p t) (key : List ℕ) where
   abbrev pub Is : Mark → Type 0
-  Is m = (b : Begun) × IsMarkOf p t trace timely key b m
+  Is m = (b : Begun) × IsMarkOf p t trace key b m
 
   abbrev pub marks : List Mark
   marks = filter_map (mark_of p t key) (begun_of t)
 
   marks-are : AllByRecursion Is marks
-  marks-are = picked (mark_of p t key) (λ b. start_of b.client b.op t ≡ Some b.start) Is (begun_of t) (λ b m began is. (b, mark-is p t trace timely key b m began is)) (begun-are p t trace).0
+  marks-are = picked (mark_of p t key) (λ b. start_of b.client b.op t ≡ Some b.start) Is (begun_of t) (λ b m began is. (b, mark-is p t trace key b m began is)) (begun-are p t trace).0
 
   sorted-are : AllByRecursion Is (sorted_marks is_behind marks)
   sorted-are = all-sorted Is marks marks-are
@@ -440,7 +445,7 @@ module _ (p : Params) (t : List Deed) (trace : IsTrace p t) (timely : (c o : ℕ
   real-time =
       ordered-real_time (sorted_marks is_behind marks) (sorted-ordered marks)
       (later-pairs (sorted_marks is_behind marks) (all-each Is (λ m. AllByRecursion (InTime m) (sorted_marks is_behind marks)) (sorted_marks is_behind marks)
-      (λ m a. all-each Is (InTime m) (sorted_marks is_behind marks) (λ n b. in-time p t trace timely key a.0 b.0 m n a.1 b.1) sorted-are) sorted-are))
+      (λ m a. all-each Is (InTime m) (sorted_marks is_behind marks) (λ n b. in-time p t trace key a.0 b.0 m n a.1 b.1) sorted-are) sorted-are))
 
   picked-apart : (ops : List Begun) → AllByRecursion (λ b. start_of b.client b.op t ≡ Some b.start) ops → AreOthers ops → AreApart (filter_map (mark_of p t key) ops)
   picked-apart [] began others = tt
@@ -449,10 +454,10 @@ module _ (p : Params) (t : List Deed) (trace : IsTrace p t) (timely : (c o : ℕ
       by_first : (o : Option Mark) → mark_of p t key b ≡ o → AreApart (filter_map (mark_of p t key) ops) → AreApart (cons_option o (filter_map (mark_of p t key) ops))
       by_first None is rest = rest
       by_first (Some m) is rest =
-          let here = mark-is p t trace timely key b m began.0 is in
+          let here = mark-is p t trace key b m began.0 is in
           let both_ : AllByRecursion (λ a. (start_of a.client a.op t ≡ Some a.start) × ((b.client ≡ a.client) × (b.op ≡ a.op) → ⊥)) ops = all-pairs (λ a. start_of a.client a.op t ≡ Some a.start) (λ a. (b.client ≡ a.client) × (b.op ≡ a.op) → ⊥) ops began.1 others.0 in (
             picked (mark_of p t key) (λ a. (start_of a.client a.op t ≡ Some a.start) × ((b.client ≡ a.client) × (b.op ≡ a.op) → ⊥)) (Differs m) ops
-                (λ a n known other. marks-differ p t trace timely key b a m n here (mark-is p t trace timely key a n known.0 other) known.1) both_,
+                (λ a n known other. marks-differ p t trace key b a m n here (mark-is p t trace key a n known.0 other) known.1) both_,
             rest,
           )
 
@@ -496,7 +501,7 @@ module _ (p : Params) (t : List Deed) (trace : IsTrace p t) (timely : (c o : ℕ
     above-zero m mark reads =
         elim mark.1.sort [
           | inr read ↦ (let k = read.reads_is in absurd (omega (arith, k, reads)))
-          | inl write ↦ stamp_le-lt zero_stamp (top mark.0.start.before key) m.stamp (zero-least (top mark.0.start.before key)) (own-above p t mark.0.client mark.0.op key m.stamp trace (mark-writing p t trace timely key mark.0 m mark.1 write)).0
+          | inl write ↦ stamp_le-lt zero_stamp (top mark.0.start.before key) m.stamp (zero-least (top mark.0.start.before key)) (own-above p t mark.0.client mark.0.op key m.stamp trace (mark-writing p t trace key mark.0 m mark.1 write)).0
         ]
 
     is-mark : (m : Mark) → Is m → IsMark m
@@ -507,7 +512,7 @@ module _ (p : Params) (t : List Deed) (trace : IsTrace p t) (timely : (c o : ℕ
           | inl write ↦ inl (write.reads_is, λ g. subst (λ (e : End). TellsRegister g e) (sym (ap (λ (x : Operation). x.end) mark.1.op_is)) (by_return g b write mark.1 (return_of p b.client b.op t) refl))
         ]
       where
-        by_return : (g : Option (List ℕ)) (b : Begun) → IsWriteMark p t trace timely key b m → IsMarkOf p t trace timely key b m → (o : Option Return) → return_of p b.client b.op t ≡ o → TellsRegister g (end_of o (progress_of p.f p.k b.client b.op b.start.action (inputs_of b.client b.op t)))
+        by_return : (g : Option (List ℕ)) (b : Begun) → IsWriteMark p t trace key b m → IsMarkOf p t trace key b m → (o : Option Return) → return_of p b.client b.op t ≡ o → TellsRegister g (end_of o (progress_of p.f p.k b.client b.op b.start.action (inputs_of b.client b.op t)))
         by_return g b write of None is = tt
         by_return g b write of (Some r) is =
             let h = return-reply p b.client b.op t r trace is in

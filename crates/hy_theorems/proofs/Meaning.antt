@@ -224,7 +224,7 @@ applied-more (asks.Watch b n k s) before c o is = is
 applied-more (asks.Olds b n k) before c o is = is
 applied-more (asks.Forget b n k ss) before c o is = is
 
-applied-keeps : (d : Deed) (t : List Deed) (c o : ℕ) → was_applied (served t) c o ≡ true → was_applied (served (d ∷ t)) c o ≡ true
+pub applied-keeps : (d : Deed) (t : List Deed) (c o : ℕ) → was_applied (served t) c o ≡ true → was_applied (served (d ∷ t)) c o ≡ true
 applied-keeps d t c o is =
     elim (served-step d t) [
       | inl same ↦ ap (λ (x : List MetaAsk). was_applied x c o) same ∙ is

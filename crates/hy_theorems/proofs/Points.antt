@@ -38,7 +38,7 @@ pub record TakesInput (p : Params) (c o : ℕ) (d : Deed) (t : List Deed) : Type
   pub inputs : inputs_of c o (d ∷ t) ≡ cue ∷ inputs_of c o t
   pub version : version_made c o (d ∷ t) ≡ newer_made (version_of (inputs_of c o t)) (has_of cue) made (version_made c o t)
 
-made-step : (p : Params) (c o : ℕ) (d : Deed) (t : List Deed) → Fits p t d → ((inputs_of c o (d ∷ t) ≡ inputs_of c o t) × (version_made c o (d ∷ t) ≡ version_made c o t)) ⊎ TakesInput p c o d t
+pub made-step : (p : Params) (c o : ℕ) (d : Deed) (t : List Deed) → Fits p t d → ((inputs_of c o (d ∷ t) ≡ inputs_of c o t) × (version_made c o (d ∷ t) ≡ version_made c o t)) ⊎ TakesInput p c o d t
 unfolding inputs_of version_made
 made-step p c o Joined t fits = inl (refl, refl)
 made-step p c o (Began b n a) t fits = inl (refl, refl)
@@ -88,7 +88,7 @@ sent-behind p (d ∷ t) w c o k r s trace (inr was) began =
     let same : reading.start ≡ s = same_Some reading.start s (sym (start-keeps c o d t reading.start reading.began) ∙ began) in
     subst (λ (x : Start). length x.before < w) same (sent-behind p t w c o k r reading.start trace.1 was reading.began)
 
-made-has : (p : Params) (t : List Deed) (w c o : ℕ) (key : List ℕ) (cue : Cue) (r : Option RecordValue) → has_of cue ≡ Some r → addresses c o key cue ≡ true → IsMade p t w cue → IsSentAt p t w (Say (says.Has c o key r))
+pub made-has : (p : Params) (t : List Deed) (w c o : ℕ) (key : List ℕ) (cue : Cue) (r : Option RecordValue) → has_of cue ≡ Some r → addresses c o key cue ≡ true → IsMade p t w cue → IsSentAt p t w (Say (says.Has c o key r))
 unfolding addresses
 made-has p t w c o key (cues.Meta (says.Has b n k q)) r tells own sent = same-name b c n o k key (λ x y z. IsSentAt p t w (Say (says.Has x y z r))) own (subst (λ (x : Option RecordValue). IsSentAt p t w (Say (says.Has b n k x))) (same_Some q r tells) sent)
 made-has p t w c o key (cues.Meta (says.Applied b n k s)) r tells own sent = absurd (none-some r tells)
@@ -127,7 +127,7 @@ early-newer (Some u) (Some r) w old n low le =
     ]
 
 -- an operation with a version had inputs, so it began
-version-before : (p : Params) (c o : ℕ) (t : List Deed) → IsTrace p t → (v : Version) → version_of (inputs_of c o t) ≡ Some v → (u : Start) × (start_of c o t ≡ Some u)
+pub version-before : (p : Params) (c o : ℕ) (t : List Deed) → IsTrace p t → (v : Version) → version_of (inputs_of c o t) ≡ Some v → (u : Start) × (start_of c o t ≡ Some u)
 version-before p c o t trace v is =
     let b = version-told (inputs_of c o t) v is in
     let h = inputs-heard p c o b.cue t trace b.input in
@@ -203,7 +203,7 @@ version-stays cue before v is = rw is (by_has (has_of cue))
           | inr not_above ↦ (record { rec = v.rec; since = cue ∷ v.since }, rw not_above refl)
         ]
 
-answered-version : (o : Option Version) (reply : Reply) → answer_of o ≡ Some reply → (v : Version) × (o ≡ Some v)
+pub answered-version : (o : Option Version) (reply : Reply) → answer_of o ≡ Some reply → (v : Version) × (o ≡ Some v)
 answered-version None reply is = absurd (none-some reply is)
 answered-version (Some v) reply is = (v, refl)
 

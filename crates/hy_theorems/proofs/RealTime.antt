@@ -87,7 +87,7 @@ stamp_of_reply (told.Absent s) = s
 stamp_of_reply (told.Exhausted s) = s
 stamp_of_reply (told.Collected n) = record { sn = 0; cid = 0 }
 
-answer-stamp : (r : Option RecordValue) (since : List Cue) (reply : Reply) → answer_for r since ≡ Some reply → stamp_of_reply reply ≡ stamp_of_record r
+pub answer-stamp : (r : Option RecordValue) (since : List Cue) (reply : Reply) → answer_for r since ≡ Some reply → stamp_of_reply reply ≡ stamp_of_record r
 unfolding answer_for
 answer-stamp None since reply is = ap stamp_of_reply (sym (same_Some (told.Absent (record { sn = 0; cid = 0 })) reply is))
 answer-stamp (Some r) since reply is =

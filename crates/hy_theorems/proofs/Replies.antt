@@ -1,7 +1,8 @@
 -- What operations reply, and how far they are.
-use Rattle.std.proofs.Common.{◌≡◌, ℕ, Bool, true, false, cond, List, [], ◌∷◌, Option, Some, None, refl, sym, ap, inl, inr}
+use Rattle.std.proofs.Common.{◌≡◌, ℕ, Bool, true, false, cond, List, [], ◌∷◌, Option, Some, None, refl, sym, ap, ◌∙◌, inl, inr}
 use Rattle.std.specs.Prelude.{◌⊎◌, nat_lt}
 use Rattle.std.proofs.lemmas.Option.{none-some, same_Some, cond_some}
+use Rattle.std.proofs.lemmas.Bool.{false≢true}
 use Rattle.hy_record.specs.declared.action.Action.{Action}
 use Rattle.hy_record.specs.declared.action.Action.TheVariants as asked
 use Rattle.hy_record.specs.declared.action.Reply.{Reply}
@@ -22,6 +23,9 @@ use Rattle.hy_protocol.specs.Collect.{first_olds, forget_of, collected_by, nothi
 use Rattle.hy_protocol.specs.Progress.{update_progress, progress_since_has, write_progress, version_progress, progress_of_version, read_progress, deletion_progress, progress_since_olds, collect_progress, progress_of}
 use Rattle.hy_trace.specs.Deeds.{Params}
 use Rattle.hy_protocol.specs.Operations.{write_plan, collect_plan, replied}
+use Rattle.hy_protocol.specs.Inputs.{is_update_answer}
+use Rattle.hy_trace.specs.Order.{is_done}
+use Rattle.hy_trace.specs.Hashed.{IsInput}
 use Rattle.hy_trace.proofs.Growth.{or-cases}
 use Rattle.hy_theorems.proofs.Writes.{own-keeps, update-own, reply-cases}
 
@@ -149,3 +153,16 @@ phase-fits p c o (asked.Collect key) inputs = by_olds (first_olds inputs)
     by_olds : (told_ : Option (List Timestamp)) → is_phase_of (asked.Collect key) (progress_since_olds (collect_plan p.f p.k c o key) inputs told_).phase ≡ true
     by_olds None = refl
     by_olds (Some ss) = by_forget o ss (forget_of (collect_plan p.f p.k c o key) inputs)
+
+-- a write that replied Done was handed an answer to its update
+pub done-heard : (plan : PutPlan) (inputs : List Cue) (reply : Reply) → write_reply plan inputs ≡ Some reply → is_done reply ≡ true → (cue : Cue) × IsInput inputs cue × (is_update_answer cue ≡ true)
+unfolding write_reply
+done-heard plan [] reply is done = absurd (none-some reply is)
+done-heard plan (cue ∷ before) reply is done =
+    elim (or-cases (write_reply plan before) (write_reply_at plan cue before) reply is) [
+      | inl was ↦ (let h = done-heard plan before reply was done in (h.0, inr h.1, h.2))
+      | inr now ↦ elim (reply-cases plan cue before reply now.1) [
+        | inl answered ↦ (cue, inl refl, answered.2)
+        | inr exhausted ↦ absurd (false≢true (ap is_done exhausted.1 ∙ done))
+      ]
+    ]

@@ -119,7 +119,7 @@ fired-below before k s =
     all-filtered (λ w. is_passed before k s w) (λ w. (k ≡ w.key) × (stamp_lt w.stamp s ≡ true)) (watches_of before)
     (λ w is. (let outer = both (key_eq w.key k && not (stamp_lt w.stamp (record_stamp before k))) (stamp_lt w.stamp s) is in let inner = both (key_eq w.key k) (not (stamp_lt w.stamp (record_stamp before k))) outer.0 in (sym (key_eq-true w.key k inner.0), outer.1)))
 
-applied-top : (before : List MetaAsk) (c o : ℕ) (k : List ℕ) (r : RecordValue) → stamp_lt (record_stamp before k) r.stamp ≡ true → record_stamp (asks.Update c o k r ∷ before) k ≡ r.stamp
+pub applied-top : (before : List MetaAsk) (c o : ℕ) (k : List ℕ) (r : RecordValue) → stamp_lt (record_stamp before k) r.stamp ≡ true → record_stamp (asks.Update c o k r ∷ before) k ≡ r.stamp
 unfolding record_stamp
 applied-top before c o k r above =
     let chosen : cond (stamp_lt (record_stamp before k) r.stamp) (Some r) (record_after before k) ≡ Some r = rw above refl in

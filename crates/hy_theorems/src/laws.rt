@@ -16,7 +16,7 @@ ghost use Rattle.hy_trace.specs.Messages.{IsSent};
 ghost use Rattle.hy_trace.specs.Schedule.{trace_of};
 ghost use Rattle.hy_trace.specs.History.{history_of};
 ghost use Rattle.hy_trace.specs.Points.{applied_count};
-ghost use Rattle.hy_trace.specs.Order.{operations_in_order, linearization_of};
+ghost use Rattle.hy_trace.specs.Order.{operations_in_order, operations_by_stamp, linearization_of};
 ghost use Rattle.hy_trace.specs.Hashed.{IsCollisionFree, ArePutBytes};
 ghost use Rattle.hy_trace.specs.Held.{held_of, HasLiars, holders_of};
 ghost use Rattle.hy_trace.specs.Report.{report_of};
@@ -33,6 +33,12 @@ pub fn stamps_of_writes_differ()
 /// A deletion that was asked for is of a timestamp below that of the record, whatever clouds do.
 pub fn deletions_are_superseded()
     ensures { (p : Params) (schedule : List Step) (client op cloud : ℕ) (key : List ℕ) (stamp : Timestamp) → IsSent p (trace_of p schedule) (deletion client op cloud key stamp) → stamp_lt stamp (record_stamp (served (trace_of p schedule)) key) ≡ true }
+{}
+
+/// The order of a key's operations, in which each stands at its point, is their order by timestamp: writes before the reads that found them,
+/// and reads of one timestamp by their points.
+pub fn orders_stand_by_stamp()
+    ensures { (p : Params) (schedule : List Step) (key : List ℕ) → operations_in_order p (trace_of p schedule) key ≡ operations_by_stamp p (trace_of p schedule) key }
 {}
 
 /// The order of a key's operations respects real time, whatever clouds do.

@@ -96,13 +96,17 @@ is_behind a b =
 abbrev pub op_of : Mark → Operation
 op_of m = m.op
 
--- the operations of a key, by their points, and those of one point by timestamp
+-- the operations of a key: each at its point, and those of one point by timestamp
 abbrev pub operations_in_order : Params → List Deed → List ℕ → List Operation
-operations_in_order p t key = map op_of (sorted_marks is_behind (marks_of p t key))
+operations_in_order p t key = map op_of (sorted_marks is_later (marks_of p t key))
+
+-- the same operations by timestamp
+abbrev pub operations_by_stamp : Params → List Deed → List ℕ → List Operation
+operations_by_stamp p t key = map op_of (sorted_marks is_behind (marks_of p t key))
 
 abbrev pub number_of : Operation → ℕ
 number_of op = op.number
 
--- their numbers
+-- the order of a key: the numbers of its operations
 unfoldable pub linearization_of : Params → List Deed → List ℕ → List ℕ
 linearization_of p t key = map number_of (operations_in_order p t key)
