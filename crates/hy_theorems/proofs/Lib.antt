@@ -25,3 +25,4 @@ pub mod TopAt
 pub mod Overwritten
 pub mod ReadPoints
 pub mod Placed
+pub mod Rereads

@@ -2,3 +2,4 @@ pub mod Writing
 pub mod Retrieval
 pub mod Starving
 pub mod Deleting
+pub mod Refreshing

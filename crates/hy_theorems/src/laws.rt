@@ -6,6 +6,8 @@ ghost use Rattle.hy_record.specs.Shape.{IsShape};
 ghost use Rattle.hy_record.specs.Record.{RecordValue, is_tombstone};
 ghost use Rattle.hy_record.specs.Clouds.{clouds_of};
 ghost use Rattle.hy_meta.specs.Service.{record_stamp, record_after};
+ghost use Rattle.hy_record.specs.declared.turn.Cue.{Cue};
+ghost use Rattle.hy_protocol.specs.declared.plan.GetPlan.{GetPlan};
 ghost use Rattle.hy_protocol.specs.Read.{refresh_count};
 ghost use Rattle.hy_order.specs.History.{IsHistory};
 ghost use Rattle.hy_order.specs.declared.held.Held.{Held};
@@ -23,6 +25,7 @@ ghost use Rattle.hy_trace.specs.Report.{report_of};
 ghost use Rattle.hy_theorems.specs.Writing.{IsWriting};
 ghost use Rattle.hy_theorems.specs.Deleting.{deletion};
 ghost use Rattle.hy_theorems.specs.Retrieval.{IsRetrievable};
+ghost use Rattle.hy_theorems.specs.Refreshing.{reads_sent_again};
 ghost use Rattle.hy_theorems.specs.Starving.{IsGet, IsStarvedGet};
 
 /// Two writes of a key with one timestamp are one.
@@ -80,6 +83,11 @@ pub fn current_versions_stay_retrievable()
 /// With at most f Byzantine clouds, what a report tells of a key's current version lists at least k clouds.
 pub fn reported_copies_are_enough()
     ensures { (p : Params) (schedule : List Step) (key : List ℕ) (held : Held) → IsShape p.f p.k → HasLiars p p.f → held_of p (trace_of p schedule) key ≡ Some held → p.k ≤ length (clouds_of held.clouds) }
+{}
+
+/// The refreshes of a get are the requests for the record that it sends again, those upon a timeout left out.
+pub fn refreshes_are_reads_sent_again()
+    ensures { (plan : GetPlan) (inputs : List Cue) → refresh_count inputs ≡ reads_sent_again plan inputs }
 {}
 
 /// A get asks for the record again at most as often as updates of its key were applied since it began, whatever clouds do.
