@@ -9,3 +9,4 @@ pub mod Order
 pub mod Hashed
 pub mod Held
 pub mod Report
+pub mod Rows

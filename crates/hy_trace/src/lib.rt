@@ -3,6 +3,8 @@
 //! Nothing runs here. A simulator keeps a trace, and theorems speak of every one.
 #![tactic(auto)]
 
+mod rows;
 mod step;
 
+pub use rows::worked_rows_are_told;
 pub use step::{MAX_GIVES, Step};
