@@ -1,0 +1,5 @@
+pub mod Writing
+pub mod Retrieval
+pub mod Starving
+pub mod Deleting
+pub mod Refreshing

@@ -1,0 +1,12 @@
+pub mod Deeds
+pub mod Messages
+pub mod Trace
+pub mod Schedule
+pub mod Doing
+pub mod History
+pub mod Points
+pub mod Order
+pub mod Hashed
+pub mod Held
+pub mod Report
+pub mod Rows
