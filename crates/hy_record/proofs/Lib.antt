@@ -6,3 +6,4 @@ pub mod Records
 pub mod Names
 pub mod Order
 pub mod CloudSets
+pub mod Sizes

@@ -5,6 +5,7 @@ mod action;
 mod hash;
 mod key;
 mod kind;
+mod laws;
 mod message;
 mod name;
 mod record;
@@ -15,11 +16,13 @@ pub use action::{Action, Phase, Reply};
 pub use hash::{Hash, sha};
 pub use key::{Key, KeyFault};
 pub use kind::Kind;
+pub use laws::{
+    record_lists_a_quorum, record_spellings_are_apart, record_spellings_are_short,
+    records_are_read_back,
+};
 pub use message::{MetaAsk, MetaSay};
 pub use name::{name_of, read_name};
-pub use record::{
-    Record, RecordFault, record_lists_a_quorum, record_spellings_are_apart, records_are_read_back,
-};
+pub use record::{Record, RecordFault};
 pub use stamp::Stamp;
 pub use stamps::{MAX_STAMPS, Stamps};
 
