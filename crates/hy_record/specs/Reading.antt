@@ -3,13 +3,13 @@ use Rattle.std.specs.Prelude.{ℕ, zero, suc, ◌-◌, ◌≤◌, IsTrue, Bool, 
 use Rattle.byteorder.specs.Endian.{big_number}
 use Rattle.hy_base.specs.Results.{◌>>=◌}
 use Rattle.hy_base.specs.Results as results
-use Rattle.hy_base.specs.declared.limits.TheConstants.{MAX_F, MAX_K, MAX_VALUE}
+use Rattle.hy_base.specs.declared.limits.TheConstants.{MAX_F, MAX_K, MAX_VALUE, SN_END}
 use Rattle.hy_record.specs.declared.kind.Kind.{Kind}
 use Rattle.hy_record.specs.declared.kind.Kind.TheVariants.{Tomb, Whole, Coded}
 use Rattle.hy_record.specs.declared.record.fault.RecordFault.{RecordFault}
 use Rattle.hy_record.specs.declared.record.fault.RecordFault.TheVariants as faults
 use Rattle.hy_record.specs.declared.record.reading.Layout.{Layout}
-use Rattle.hy_record.specs.Stamp.{Timestamp, STAMP_END}
+use Rattle.hy_record.specs.Stamp.{Timestamp}
 use Rattle.hy_record.specs.Hash.{HASH_SIZE}
 use Rattle.hy_record.specs.Record.{RecordValue, is_part_count, is_cloud_list, hash_count, tombstone}
 
@@ -50,7 +50,7 @@ kind_at whole (suc (suc (suc b)) ∷ rest) = Err (faults.BadKind (suc (suc (suc 
 -- a write's timestamp, which begins at place 2
 unfoldable pub stamp_at : ℕ → List ℕ → Result (Timestamp × List ℕ) RecordFault
 stamp_at whole bytes = do
-  sn ← field_at 4 2 (λ sn. nat_lt 0 sn && nat_lt sn STAMP_END) whole bytes
+  sn ← field_at 4 2 (λ sn. nat_lt 0 sn && nat_lt sn SN_END) whole bytes
   cid ← field_at 4 6 (λ cid. nat_lt 0 cid) whole sn.1
   Ok (record { sn = sn.0; cid = cid.0 }, cid.1)
 
