@@ -4,6 +4,7 @@ use Rattle.std.specs.Prelude.{codes, is_err, Option}
 use Rattle.hy_base.specs.declared.fault.Cause.{Cause}
 use Rattle.hy_base.specs.declared.fault.TextError.{TextError}
 use Rattle.hy_base.specs.declared.fault.TextFault.{TextFault}
+use Rattle.hy_base.specs.declared.limits.TheConstants.{MAX_COUNT}
 use Rattle.hy_text.specs.Gives.{fault_of, at_line, next_number}
 use Rattle.hy_text.specs.Line.{first_word, later_words}
 use Rattle.hy_base.specs.Results.{◌>>=◌, Fails}
@@ -16,7 +17,7 @@ use Rattle.hy_order.specs.WordReaders.{numbers_of}
 -- ---- the numbers of an order
 
 pub numbers_go_on : (front : List ℕ) (words : List (List ℕ)) (number : ℕ) (total : Result (List ℕ) Cause)
-    → is_err (end_of words) ≡ true → number_of 1 4294967295 (first_word words) ≡ Ok number
+    → is_err (end_of words) ≡ true → number_of 1 MAX_COUNT (first_word words) ≡ Ok number
     → with_front front (numbers_of words) ≡ total → with_front (front ++ number ∷ []) (numbers_of (later_words words)) ≡ total
 unfolding numbers_of
 numbers_go_on front [] number total some read so_far = absurd cc
@@ -25,7 +26,7 @@ numbers_go_on front (word ∷ words) number total some read so_far =
     ∙ ap (λ (first : Result ℕ Cause). with_front front (first >>= λ number. numbers_of words >>= λ numbers. Ok (number ∷ numbers))) (sym read) ∙ so_far
 
 pub numbers_fail : (front : List ℕ) (words : List (List ℕ)) (cause : Cause) (total : Result (List ℕ) Cause)
-    → is_err (end_of words) ≡ true → number_of 1 4294967295 (first_word words) ≡ Err cause
+    → is_err (end_of words) ≡ true → number_of 1 MAX_COUNT (first_word words) ≡ Err cause
     → with_front front (numbers_of words) ≡ total → total ≡ Err cause
 unfolding numbers_of
 numbers_fail front [] cause total some read so_far = absurd cc

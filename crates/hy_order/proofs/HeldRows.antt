@@ -1,5 +1,5 @@
 -- The lines of retrievable copies: what is read is the row of copies of a key above the last.
-use Rattle.std.proofs.Common.{◌≡◌, ℕ, ◌<◌, Bool, true, false, cond, List, [], ◌∷◌, ◌++◌, map, Option, Some, None, Ok, Err, refl, sym, ap, subst, ◌∙◌}
+use Rattle.std.proofs.Common.{◌≡◌, ℕ, ◌-◌, Bool, true, false, cond, List, [], ◌∷◌, ◌++◌, map, Option, Some, None, Ok, Err, refl, sym, ap, subst, ◌∙◌, arith}
 use Rattle.std.specs.Prelude.{codes}
 use Rattle.std.specs.Cmp.Lexicographic.{slice_cmp}
 use Rattle.std.specs.List.{AllByRecursion}
@@ -10,7 +10,7 @@ use Rattle.std.specs.declared.cmp.Ordering.TheVariants.{Less, Equal, Greater}
 use Rattle.std.specs.Str.{bytes_eq}
 use Rattle.std.proofs.lemmas.Cmp.{nat_list_cmp_total}
 use Rattle.std.proofs.lemmas.Slice.Eq.{bytes_eq-Decides}
-use Rattle.hy_base.specs.declared.fault.Cause.TheVariants.{BadKey, BadNumber}
+use Rattle.hy_base.specs.declared.fault.Cause.TheVariants.{BadKey}
 use Rattle.hy_record.specs.Clouds.{clouds_of}
 use Rattle.hy_text.specs.Line.{first_word, later_words}
 use Rattle.hy_text.specs.Slot.{key_word, end_of}
@@ -19,35 +19,16 @@ use Rattle.hy_base.proofs.Results.{bind_ok, ok_is}
 use Rattle.hy_text.proofs.Slots.{end_takes, words_from_first}
 use Rattle.hy_order.specs.declared.held.Held.{Held}
 use Rattle.hy_order.specs.OpenLine.{OpenLine, Rest}
-use Rattle.hy_order.specs.Report.{held_row, stamp_words, cloud_word}
+use Rattle.hy_base.specs.declared.limits.TheConstants.{MAX_COUNT, MAX_N}
+use Rattle.hy_text.specs.Clouds.{cloud_word}
+use Rattle.hy_text.specs.Stamp.{stamp_words}
+use Rattle.hy_order.specs.Report.{held_row}
 use Rattle.hy_order.specs.ReportRanges.{IsTextHeld}
 use Rattle.hy_order.specs.ReportReading.{held_of, held_in, held_lines, items_from}
-use Rattle.hy_order.specs.WordReaders.{is_above, key_above, clouds_word_of, clouds_named_below, stamp_from}
-use Rattle.hy_order.proofs.CloudTable.{cloud_word_is}
-use Rattle.hy_order.proofs.CloudWords.{clouds_named_below-small}
+use Rattle.hy_order.specs.WordReaders.{is_above, key_above, store_clouds_of, any_stamp_from}
 use Rattle.hy_order.proofs.LineGroups.{closed_ok, Takes, AreLinesOf, FitAlong, line_of_row, items_take}
-use Rattle.hy_order.proofs.WordRows.{key_first, stamp_takes, stamp_again}
-
--- ---- clouds
-
-clouds_ok : (t : Bool) (clouds found : ℕ) → cond t (Ok clouds) (Err BadNumber) ≡ Ok found → (t ≡ true) × (clouds ≡ found)
-clouds_ok true clouds found e = (refl, ok_is clouds found e)
-clouds_ok false clouds found e = absurd cc
-
-clouds_take : (word : List ℕ) (clouds : ℕ) → clouds_word_of word ≡ Ok clouds → (word ≡ cloud_word (clouds_of clouds)) × (clouds < 1024)
-unfolding clouds_word_of
-clouds_take word clouds e =
-    let named : ℕ = clouds_named_below 10 word in
-    let ok = clouds_ok (bytes_eq word (cloud_word (clouds_of named))) named clouds e in
-    let printed : word ≡ cloud_word (clouds_of named) = (bytes_eq-Decides word (cloud_word (clouds_of named))).0 ok.0 in
-    (printed ∙ ap (λ (n : ℕ). cloud_word (clouds_of n)) ok.1, subst (λ (n : ℕ). n < 1024) ok.1 (clouds_named_below-small 10 word))
-
-clouds_again : (clouds : ℕ) → clouds < 1024 → clouds_word_of (cloud_word (clouds_of clouds)) ≡ Ok clouds
-unfolding clouds_word_of
-clouds_again clouds below =
-    let word : List ℕ = cloud_word (clouds_of clouds) in
-    let same : bytes_eq word word ≡ true = (bytes_eq-Decides word word).1 refl in
-    rw ((cloud_word_is clouds below).named, same) refl
+use Rattle.hy_text.proofs.CloudWords.{clouds_take, clouds_again, is_word-clouds}
+use Rattle.hy_text.proofs.Groups.{key_first, stamp_takes, stamp_again}
 
 -- ---- the line
 
@@ -79,16 +60,16 @@ held_takes : (last : Option (List ℕ)) (words : List (List ℕ)) (held : Held) 
 unfolding held_of
 held_takes last words held e =
     let key = bind_ok (key_above last (first_word words)) _ held e in
-    let stamp = bind_ok (stamp_from (later_words words)) _ held key.2 in
-    let clouds = bind_ok (clouds_word_of (first_word stamp.0.1)) _ held stamp.2 in
+    let stamp = bind_ok (any_stamp_from (later_words words)) _ held key.2 in
+    let clouds = bind_ok (store_clouds_of (first_word stamp.0.1)) _ held stamp.2 in
     let none = bind_ok (end_of (later_words stamp.0.1)) (λ _. Ok (record { key = key.0; stamp = stamp.0.0; clouds = clouds.0 })) held clouds.2 in
     let above = key_above_takes last (first_word words) key.0 key.1 in
     let k = key_first words key.0 above.0 in
-    let s = stamp_takes (later_words words) stamp.0 stamp.1 in
-    let c = clouds_take (first_word stamp.0.1) clouds.0 clouds.1 in
+    let s = stamp_takes 0 MAX_COUNT (later_words words) stamp.0 (omega arith) stamp.1 in
+    let c = clouds_take (MAX_N - 1) (first_word stamp.0.1) clouds.0 (omega arith) clouds.1 in
     let word : List ℕ = cloud_word (clouds_of clouds.0) in
     let last_words : stamp.0.1 ≡ word ∷ [] =
-    words_from_first stamp.0.1 word c.0 (cloud_word_is clouds.0 c.1).filled ∙ ap (λ (ws : List (List ℕ)). word ∷ ws) (end_takes (later_words stamp.0.1) none.0 none.1) in
+    words_from_first stamp.0.1 word c.0 (is_word-clouds (MAX_N - 1) clouds.0 (omega arith) c.1).1 ∙ ap (λ (ws : List (List ℕ)). word ∷ ws) (end_takes (later_words stamp.0.1) none.0 none.1) in
     let row : words ≡ key.0 ∷ (stamp_words stamp.0.0 ++ word ∷ []) =
     k.0 ∙ ap (λ (ws : List (List ℕ)). key.0 ∷ ws) (s.row ∙ ap (λ (ws : List (List ℕ)). stamp_words stamp.0.0 ++ ws) last_words) in
     subst (SpellsHeld last words) (ok_is (record { key = key.0; stamp = stamp.0.0; clouds = clouds.0 }) held none.2)
@@ -156,5 +137,5 @@ helds_fit (held ∷ helds) ranges sorted = (record { range = ranges.0; above = r
 pub held_again : (last : Option (List ℕ)) (held : Held) → FitsAbove last held → (bytes_eq (codes "held") (codes "held") ≡ true) × (held_in last (line_of_row (held_row held)) ≡ Ok held)
 unfolding held_of
 held_again last held fits =
-    let stamp = stamp_again held.stamp (cloud_word (clouds_of held.clouds) ∷ []) fits.range.stamp in
-    (refl, rw (key_again held.key fits.range.key, fits.above, stamp, clouds_again held.clouds fits.range.clouds) refl)
+    let stamp = stamp_again 0 MAX_COUNT held.stamp (cloud_word (clouds_of held.clouds) ∷ []) (omega arith) fits.range.stamp in
+    (refl, rw (key_again held.key fits.range.key, fits.above, stamp, clouds_again (MAX_N - 1) held.clouds (omega arith) fits.range.clouds) refl)

@@ -13,12 +13,14 @@ use Rattle.hy_order.specs.declared.operation.Operation.{Operation}
 use Rattle.hy_order.specs.declared.report.TheConstants.{LAST_STEP}
 use Rattle.hy_order.specs.History.{IsHistory, IsNumberedFrom, is_end_of}
 use Rattle.hy_order.specs.OpenLine.{OpenLine, Rest}
-use Rattle.hy_order.specs.Report.{action_words, end_words, operation_row}
+use Rattle.hy_base.specs.declared.limits.TheConstants.{MAX_COUNT}
+use Rattle.hy_text.specs.Action.{action_words, action_from}
+use Rattle.hy_order.specs.Report.{end_words, operation_row}
 use Rattle.hy_order.specs.ReportRanges.{IsTextOperation, AreTextOperations}
 use Rattle.hy_order.specs.ReportReading.{Before, operation_of, operation_in, operation_lines, items_from}
-use Rattle.hy_order.specs.WordReaders.{number_after, action_from, end_from}
+use Rattle.hy_order.specs.WordReaders.{number_after, end_from}
 use Rattle.hy_text.proofs.Numbers.{number_again}
-use Rattle.hy_order.proofs.WordRows.{number_word, action_takes, action_again}
+use Rattle.hy_text.proofs.Groups.{number_first, action_takes, action_again}
 use Rattle.hy_order.proofs.EndRows.{end_takes, end_again}
 use Rattle.hy_order.proofs.LineGroups.{closed_ok, Takes, AreLinesOf, FitAlong, line_of_row, items_take}
 
@@ -34,15 +36,15 @@ unfolding operation_of
 operation_takes last step words op e =
     let second : List (List ℕ) = later_words words in
     let number = bind_ok (number_after last (first_word words)) _ op e in
-    let client = bind_ok (number_of 1 4294967295 (first_word second)) _ op number.2 in
+    let client = bind_ok (number_of 1 MAX_COUNT (first_word second)) _ op number.2 in
     let action = bind_ok (action_from (later_words second)) _ op client.2 in
     let invoked = bind_ok (number_of (step + 1) LAST_STEP (first_word action.0.1)) _ op action.2 in
     let end = bind_ok (end_from action.0.0 invoked.0 (later_words action.0.1)) _ op invoked.2 in
     let none = bind_ok (end_of end.0.1) (λ _. Ok (record { number = number.0; client = client.0; action = action.0.0; invoked = invoked.0; end = end.0.0 })) op end.2 in
-    let n = number_word (last + 1) (min (last + 1) 4294967295) words number.0 (omega arith) number.1 in
-    let c = number_word 1 4294967295 second client.0 (omega arith) client.1 in
+    let n = number_first (last + 1) (min (last + 1) MAX_COUNT) words number.0 (omega arith) number.1 in
+    let c = number_first 1 MAX_COUNT second client.0 (omega arith) client.1 in
     let a = action_takes (later_words second) action.0 action.1 in
-    let i = number_word (step + 1) LAST_STEP action.0.1 invoked.0 (omega arith) invoked.1 in
+    let i = number_first (step + 1) LAST_STEP action.0.1 invoked.0 (omega arith) invoked.1 in
     let t = end_takes action.0.0 invoked.0 (later_words action.0.1) end.0 end.1 in
     let behind : later_words action.0.1 ≡ end_words end.0.0 = t.row ∙ ap (λ (ws : List (List ℕ)). end_words end.0.0 ++ ws) (slots.end_takes end.0.1 none.0 none.1) ∙ append-nil (end_words end.0.0) in
     let row : words ≡ decimal number.0 ∷ decimal client.0 ∷ (action_words action.0.0 ++ (decimal invoked.0 ∷ end_words end.0.0)) =
@@ -114,11 +116,11 @@ is_history number lines read e =
 
 -- ---- an operation is read again
 
-number_after_again : (last number : ℕ) → number ≡ last + 1 → number ≤ 4294967295 → number_after last (decimal number) ≡ Ok number
+number_after_again : (last number : ℕ) → number ≡ last + 1 → number ≤ MAX_COUNT → number_after last (decimal number) ≡ Ok number
 number_after_again last number next high =
     let low : last + 1 ≤ number = omega arith in
-    let top : number ≤ min (last + 1) 4294967295 = omega arith in
-    number_again (last + 1) (min (last + 1) 4294967295) number (omega arith) low top
+    let top : number ≤ min (last + 1) MAX_COUNT = omega arith in
+    number_again (last + 1) (min (last + 1) MAX_COUNT) number (omega arith) low top
 
 pub operation_again : (before : Before) (op : Operation) → FitsBehind before op
     → (bytes_eq (codes "op") (codes "op") ≡ true) × (operation_in before.number before.step (line_of_row (operation_row op)) ≡ Ok op)
@@ -126,11 +128,11 @@ unfolding operation_of
 operation_again before op fits =
     let range = fits.range in
     let client_low : 1 ≤ op.client = range.client_low in
-    let client_high : op.client ≤ 4294967295 = range.client_high in
+    let client_high : op.client ≤ MAX_COUNT = range.client_high in
     let invoked_low : before.step + 1 ≤ op.invoked = omega (arith, range.invoked_low) in
     let invoked_high : op.invoked ≤ LAST_STEP = range.invoked_high in
     let number = number_after_again before.number op.number fits.number range.number in
-    let client = number_again 1 4294967295 op.client (omega arith) client_low client_high in
+    let client = number_again 1 MAX_COUNT op.client (omega arith) client_low client_high in
     let action = action_again op.action (decimal op.invoked ∷ end_words op.end) range.action in
     let invoked = number_again (before.step + 1) LAST_STEP op.invoked (omega arith) invoked_low invoked_high in
     let end : end_from op.action op.invoked (end_words op.end) ≡ Ok (op.end, []) =

@@ -6,6 +6,7 @@ use Rattle.std.specs.Fmt.{decimal}
 use Rattle.std.specs.Str.{bytes_eq}
 use Rattle.std.proofs.lemmas.Slice.Eq.{bytes_eq-Decides}
 use Rattle.hy_base.specs.declared.fault.Cause.TheVariants.{BadKey}
+use Rattle.hy_base.specs.declared.limits.TheConstants.{MAX_COUNT}
 use Rattle.hy_record.specs.Key.{is_key}
 use Rattle.hy_text.specs.Line.{first_word, later_words}
 use Rattle.hy_base.specs.Results.{◌>>=◌}
@@ -28,9 +29,9 @@ numbers_take [] numbers e =
     let same : [] ≡ numbers = ok_is [] numbers e in
     subst (λ (ns : List ℕ). ([] ≡ map decimal ns) × AllByRecursion IsTextNumber ns) same (refl, tt)
 numbers_take (word ∷ words) numbers e =
-    let number = bind_ok (number_of 1 4294967295 word) _ numbers e in
+    let number = bind_ok (number_of 1 MAX_COUNT word) _ numbers e in
     let more = bind_ok (numbers_of words) (λ later. Ok (number.0 ∷ later)) numbers number.2 in
-    let n = number_takes 1 4294967295 word number.0 number.1 in
+    let n = number_takes 1 MAX_COUNT word number.0 number.1 in
     let rest = numbers_take words more.0 more.1 in
     let row : word ∷ words ≡ decimal number.0 ∷ map decimal more.0 = ap (λ (w : List ℕ). w ∷ words) n.printed ∙ ap (λ (ws : List (List ℕ)). decimal number.0 ∷ ws) rest.0 in
     subst (λ (ns : List ℕ). (word ∷ words ≡ map decimal ns) × AllByRecursion IsTextNumber ns) (ok_is (number.0 ∷ more.0) numbers more.2)
@@ -41,8 +42,8 @@ unfolding numbers_of
 numbers_again [] fits = refl
 numbers_again (number ∷ numbers) fits =
     let low : 1 ≤ number = fits.0.0 in
-    let high : number ≤ 4294967295 = fits.0.1 in
-    rw (number_again 1 4294967295 number (omega arith) low high, numbers_again numbers fits.1) refl
+    let high : number ≤ MAX_COUNT = fits.0.1 in
+    rw (number_again 1 MAX_COUNT number (omega arith) low high, numbers_again numbers fits.1) refl
 
 due_taken : (t : Bool) (u : Unit {0}) → cond t (Ok tt) (Err BadKey) ≡ Ok u → t ≡ true
 due_taken true u e = refl

@@ -1,5 +1,5 @@
 -- The two laws of the text of a report: what is read is spelled so, and what is spelled so is read.
-use Rattle.std.proofs.Common.{◌≡◌, ℕ, suc, ◌+◌, ◌^◌, ◌<◌, ◌≤◌, Bool, true, false, cond, ◌&&◌, eqb, IsTrue, List, [], ◌∷◌, ◌++◌, length, map, Option, Some, None, Result, Ok, Err, refl, sym, ap, subst, ◌∙◌, arith, length-append, append-nil}
+use Rattle.std.proofs.Common.{◌≡◌, ℕ, suc, ◌+◌, ◌-◌, ◌^◌, ◌<◌, ◌≤◌, Bool, true, false, cond, ◌&&◌, eqb, IsTrue, List, [], ◌∷◌, ◌++◌, length, map, Option, Some, None, Result, Ok, Err, refl, sym, ap, subst, ◌∙◌, arith, length-append, append-nil}
 use Rattle.std.specs.Prelude.{codes, IfOk}
 use Rattle.std.specs.List.{AllByRecursion, list_all}
 use Rattle.std.specs.Fmt.{decimal}
@@ -31,6 +31,11 @@ use Rattle.hy_text.proofs.Printed.{is_word-decimal, is_word-key, is_word-value_w
 use Rattle.hy_text.proofs.Rows.{lines_of-text_of, text_of-lines_of}
 use Rattle.hy_base.proofs.Results.{bind_ok, ok_is}
 use Rattle.hy_text.proofs.Slots.{keyword_takes, end_takes, at_line_ok}
+use Rattle.hy_base.specs.declared.limits.TheConstants.{MAX_COUNT, MAX_N}
+use Rattle.hy_text.specs.Action.{IsTextAction}
+use Rattle.hy_text.specs.Clouds.{cloud_word}
+use Rattle.hy_text.specs.Phase.{phase_word}
+use Rattle.hy_text.specs.Stamp.{stamp_words}
 use Rattle.hy_order.specs.declared.held.Held.{Held}
 use Rattle.hy_order.specs.declared.operation.End.{End}
 use Rattle.hy_order.specs.declared.operation.End.TheVariants.{Replied, Pending}
@@ -40,16 +45,16 @@ use Rattle.hy_order.specs.declared.report.Report.{Report}
 use Rattle.hy_order.specs.History.{IsNumberedFrom}
 use Rattle.hy_order.specs.Keys.{insert_key, sorted_keys}
 use Rattle.hy_order.specs.OpenLine.{OpenLine, Rest, opened}
-use Rattle.hy_order.specs.Report.{operation_row, order_row, held_row, end_row, report_rows, report_text, stamp_words, action_words, reply_words, phase_word, end_words, cloud_word}
-use Rattle.hy_order.specs.ReportRanges.{IsReport, IsTextStamp, IsTextAction, IsTextReply, IsTextEnd, IsTextOperation, AreTextOperations, IsTextNumber, IsTextHeld, register_key, register_keys}
+use Rattle.hy_order.specs.Report.{operation_row, order_row, held_row, end_row, report_rows, report_text, reply_words, end_words}
+use Rattle.hy_order.specs.ReportRanges.{IsReport, IsTextStamp, IsTextReply, IsTextEnd, IsTextOperation, AreTextOperations, IsTextNumber, IsTextHeld, register_key, register_keys}
 use Rattle.hy_order.specs.ReportReading.{Before, counts_of, end_in, items_from, operation_lines, order_lines, held_lines, nothing_in, last_line, report_at, report_of}
-use Rattle.hy_order.proofs.CloudTable.{cloud_word_is}
 use Rattle.hy_order.proofs.Fronts.{is_next_due, no_key_due}
 use Rattle.hy_order.proofs.HeldRows.{FitsAbove, helds_take, rising, ranges_taken, helds_fit, held_again}
 use Rattle.hy_order.proofs.LineGroups.{closed_ok, rows_in, all_ended, state_after, line_of_row, items_again}
 use Rattle.hy_order.proofs.OperationRows.{FitsBehind, operations_take, operations_from_fits, operations_fit, operation_again}
 use Rattle.hy_order.proofs.OrderRows.{FitsKeys, AreKeys, orders_take, keys_taken, numbers_taken, orders_fit, order_again}
-use Rattle.hy_order.proofs.WordRows.{number_word}
+use Rattle.hy_text.proofs.CloudWords.{is_word-clouds}
+use Rattle.hy_text.proofs.Groups.{number_first, phase_again, stamp_is_row, action_is_row}
 
 -- ---- the last line
 
@@ -58,8 +63,8 @@ unfolding counts_of
 counts_take ops orders words u few_ops few_orders e =
     let one = bind_ok (number_of ops ops (first_word words)) (λ _. number_of orders orders (first_word (later_words words)) >>= λ _. end_of (later_words (later_words words))) u e in
     let two = bind_ok (number_of orders orders (first_word (later_words words))) (λ _. end_of (later_words (later_words words))) u one.2 in
-    let a = number_word ops ops words one.0 few_ops one.1 in
-    let b = number_word orders orders (later_words words) two.0 few_orders two.1 in
+    let a = number_first ops ops words one.0 few_ops one.1 in
+    let b = number_first orders orders (later_words words) two.0 few_orders two.1 in
     let same_ops : one.0 ≡ ops = omega (arith, a.low_end, a.high_end) in
     let same_orders : two.0 ≡ orders = omega (arith, b.low_end, b.high_end) in
     a.row ∙ ap (λ (n : ℕ). decimal n ∷ later_words words) same_ops
@@ -148,11 +153,11 @@ register_keys-length [] = omega arith
 register_keys-length (op ∷ ops) = with_key-length (register_key op.action) op ops refl (register_keys-length ops)
 
 -- numbered operations in range are no more than there are numbers
-numbered-length : (number step : ℕ) (ops : List Operation) → IsNumberedFrom (number + 1) ops → AreTextOperations step ops → number ≤ 4294967295 → number + length ops ≤ 4294967295
+numbered-length : (number step : ℕ) (ops : List Operation) → IsNumberedFrom (number + 1) ops → AreTextOperations step ops → number ≤ MAX_COUNT → number + length ops ≤ MAX_COUNT
 numbered-length number step [] numbered range within = omega arith
 numbered-length number step (op ∷ ops) numbered range within =
     let same : op.number ≡ number + 1 = numbered.0 in
-    let high : op.number ≤ 4294967295 = range.0.number in
+    let high : op.number ≤ MAX_COUNT = range.0.number in
     let more = numbered-length (number + 1) op.invoked ops numbered.1 range.1 (omega arith) in
     omega arith
 
@@ -217,10 +222,10 @@ report_lines_take number lines report e =
     let are = sorted_keys_are (register_keys ops) (register_keys_are 0 ops all.range) in
     let o = orders_take keys behind_ops.number behind_ops.lines orders.0 are orders.1 in
     let c = helds_take behind_orders.number behind_orders.lines held.0 held.1 in
-    let few_ops : length ops ≤ 4294967295 = omega (arith, numbered-length 0 0 ops all.numbered all.range (omega arith)) in
+    let few_ops : length ops ≤ MAX_COUNT = omega (arith, numbered-length 0 0 ops all.numbered all.range (omega arith)) in
     let taken = keys_taken keys orders.0.0 o.fits in
     let sum : length keys ≡ length (map (λ (order : Order). order.key) orders.0.0) + length (state_after order_lines keys orders.0.0) = ap length taken ∙ length-append (map (λ (order : Order). order.key) orders.0.0) (state_after order_lines keys orders.0.0) in
-    let few_orders : length orders.0.0 ≤ 4294967295 =
+    let few_orders : length orders.0.0 ≤ MAX_COUNT =
     omega (arith, sum, length-map orders.0.0 (λ (order : Order). order.key), sorted_keys-length (register_keys ops), register_keys-length ops) in
     let l = last_take (length ops) (length orders.0.0) behind_held.number behind_held.lines last.0 (omega (arith, few_ops)) (omega (arith, few_orders)) last.1 in
     let end : List (List ℕ) = codes "end" ∷ decimal (length ops) ∷ decimal (length orders.0.0) ∷ [] in
@@ -252,18 +257,8 @@ report_takes text report e =
 
 -- ---- each line of a report is a row
 
-stamp_is_row : (stamp : Timestamp) (rest : List (List ℕ)) → IsTextStamp stamp → list_all is_word rest ≡ true → list_all is_word (stamp_words stamp ++ rest) ≡ true
-stamp_is_row stamp rest fits more =
-    rw (is_word-decimal stamp.sn (omega (arith, fits.number)), is_word-decimal stamp.cid (omega (arith, fits.client)), more) refl
-
-action_is_row : (action : Action) (rest : List (List ℕ)) → IsTextAction action → list_all is_word rest ≡ true → list_all is_word (action_words action ++ rest) ≡ true
-action_is_row (asked.Put key value) rest fits more = rw (is_word-key key fits.0, is_word-value_word value, more) refl
-action_is_row (asked.Get key) rest fits more = rw (is_word-key key fits, more) refl
-action_is_row (asked.Delete key) rest fits more = rw (is_word-key key fits, more) refl
-action_is_row (asked.Collect key) rest fits more = rw (is_word-key key fits, more) refl
-
 stamps_are_words : (stamp : Timestamp) → IsTextStamp stamp → list_all is_word (stamp_words stamp) ≡ true
-stamps_are_words stamp fits = rw (is_word-decimal stamp.sn (omega (arith, fits.number)), is_word-decimal stamp.cid (omega (arith, fits.client))) refl
+stamps_are_words stamp fits = rw (is_word-decimal stamp.sn (omega (arith, fits.number_high)), is_word-decimal stamp.cid (omega (arith, fits.client_high))) refl
 
 reply_is_row : (reply : Reply) → IsTextReply reply → list_all is_word (reply_words reply) ≡ true
 reply_is_row (told.Done stamp) fits = stamps_are_words stamp fits
@@ -272,20 +267,9 @@ reply_is_row (told.Value value stamp) fits = rw (is_word-value_word value) (stam
 reply_is_row (told.Absent stamp) fits = stamps_are_words stamp fits
 reply_is_row (told.Collected count) fits = rw (is_word-decimal count (omega (arith, fits))) refl
 
-phase_is_word : (at : Phase) → is_word (phase_word at) ≡ true
-phase_is_word phase.Read = refl
-phase_is_word phase.Store = refl
-phase_is_word phase.Update = refl
-phase_is_word phase.Fetch = refl
-phase_is_word phase.Watch = refl
-phase_is_word phase.Reread = refl
-phase_is_word phase.Olds = refl
-phase_is_word phase.Drop = refl
-phase_is_word phase.Forget = refl
-
 end_is_row : (invoked : ℕ) (end : End) → IsTextEnd invoked end → list_all is_word (end_words end) ≡ true
 end_is_row invoked (Replied at reply) fits = rw (is_word-decimal at (omega (arith, fits.1))) (reply_is_row reply fits.2)
-end_is_row invoked (Pending at have need) fits = rw (phase_is_word at, is_word-decimal have (omega (arith, fits.0)), is_word-decimal need (omega (arith, fits.1))) refl
+end_is_row invoked (Pending at have need) fits = rw ((phase_again at).1, is_word-decimal have (omega (arith, fits.0)), is_word-decimal need (omega (arith, fits.1))) refl
 
 operation_is_row : (step : ℕ) (op : Operation) → IsTextOperation step op → is_row (operation_row op) ≡ true
 operation_is_row step op fits =
@@ -310,8 +294,8 @@ orders_are_rows (order ∷ orders) rest are numbers more =
 helds_are_rows : (helds : List Held) (rest : List (List (List ℕ))) → AllByRecursion IsTextHeld helds → list_all is_row rest ≡ true → list_all is_row (map held_row helds ++ rest) ≡ true
 helds_are_rows [] rest fits more = more
 helds_are_rows (held ∷ helds) rest fits more =
-    let clouds : list_all is_word (cloud_word (clouds_of held.clouds) ∷ []) ≡ true = rw (cloud_word_is held.clouds fits.0.clouds).word refl in
-    let row : is_row (held_row held) ≡ true = rw (is_word-key held.key fits.0.key) (stamp_is_row held.stamp (cloud_word (clouds_of held.clouds) ∷ []) fits.0.stamp clouds) in
+    let clouds : list_all is_word (cloud_word (clouds_of held.clouds) ∷ []) ≡ true = rw (is_word-clouds (MAX_N - 1) held.clouds (omega arith) fits.0.clouds).0 refl in
+    let row : is_row (held_row held) ≡ true = rw (is_word-key held.key fits.0.key) (stamp_is_row 0 MAX_COUNT held.stamp (cloud_word (clouds_of held.clouds) ∷ []) (omega arith) fits.0.stamp clouds) in
     and_from (is_row (held_row held)) _ row (helds_are_rows helds rest fits.1 more)
 
 -- ---- the text of a report is read
@@ -343,8 +327,8 @@ report_lines_again report is =
     let ops : List Operation = report.history in
     let keys : List (List ℕ) = sorted_keys (register_keys ops) in
     let start : Before = record { number = 0; step = 0 } in
-    let few_ops : length ops ≤ 4294967295 = omega (arith, numbered-length 0 0 ops is.history.numbered is.operations (omega arith)) in
-    let few_orders : length report.orders ≤ 4294967295 =
+    let few_ops : length ops ≤ MAX_COUNT = omega (arith, numbered-length 0 0 ops is.history.numbered is.operations (omega arith)) in
+    let few_orders : length report.orders ≤ MAX_COUNT =
     omega (arith, ap length is.keys, length-map report.orders (λ (order : Order). order.key), sorted_keys-length (register_keys ops), register_keys-length ops) in
     let end : List OpenLine = end_line (length ops) (length report.orders) in
     let left_orders : List OpenLine = held_written report.held end in
@@ -367,8 +351,8 @@ pub report_again : (report : Report) → IsReport report → report_of (report_t
 unfolding report_of
 report_again report is =
     let are = subst AreKeys (sym is.keys) (sorted_keys_are (register_keys report.history) (register_keys_are 0 report.history is.operations)) in
-    let few_ops : length report.history ≤ 4294967295 = omega (arith, numbered-length 0 0 report.history is.history.numbered is.operations (omega arith)) in
-    let few_orders : length report.orders ≤ 4294967295 =
+    let few_ops : length report.history ≤ MAX_COUNT = omega (arith, numbered-length 0 0 report.history is.history.numbered is.operations (omega arith)) in
+    let few_orders : length report.orders ≤ MAX_COUNT =
     omega (arith, ap length is.keys, length-map report.orders (λ (order : Order). order.key), sorted_keys-length (register_keys report.history), register_keys-length report.history) in
     let end : list_all is_row (end_row report ∷ []) ≡ true = rw (is_word-decimal (length report.history) (omega (arith, few_ops)), is_word-decimal (length report.orders) (omega (arith, few_orders))) refl in
     let rows = lines_of-text_of (report_rows report)

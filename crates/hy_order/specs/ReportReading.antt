@@ -7,6 +7,8 @@ use Rattle.hy_base.specs.declared.fault.TextError.{TextError}
 use Rattle.hy_base.specs.declared.fault.TextFault.{TextFault}
 use Rattle.hy_base.specs.Results.{◌>>=◌}
 use Rattle.hy_base.specs.Results as results
+use Rattle.hy_base.specs.declared.limits.TheConstants.{MAX_COUNT}
+use Rattle.hy_text.specs.Action.{action_from}
 use Rattle.hy_text.specs.Gives.{fault_of, at_line, next_number}
 use Rattle.hy_text.specs.Line.{lines_of, first_word, later_words}
 use Rattle.hy_text.specs.Slot.{keyword, number_of, end_of, end_of_line}
@@ -18,7 +20,7 @@ use Rattle.hy_order.specs.declared.report.TheConstants.{LAST_STEP}
 use Rattle.hy_order.specs.Keys.{sorted_keys}
 use Rattle.hy_order.specs.OpenLine.{OpenLine, Rest, opened}
 use Rattle.hy_order.specs.ReportRanges.{register_keys}
-use Rattle.hy_order.specs.WordReaders.{number_after, due_key, key_above, clouds_word_of, stamp_from, action_from, end_from, numbers_of}
+use Rattle.hy_order.specs.WordReaders.{number_after, due_key, key_above, store_clouds_of, any_stamp_from, end_from, numbers_of}
 
 -- ---- the kinds of lines
 
@@ -30,7 +32,7 @@ closed ended read = read >>= λ x. end_of_line ended >>= λ _. Ok x
 unfoldable pub operation_of : ℕ → ℕ → List (List ℕ) → Result Operation Cause
 operation_of last step words =
     number_after last (first_word words) >>= λ number.
-    number_of 1 4294967295 (first_word (later_words words)) >>= λ client.
+    number_of 1 MAX_COUNT (first_word (later_words words)) >>= λ client.
     action_from (later_words (later_words words)) >>= λ action.
     number_of (step + 1) LAST_STEP (first_word action.1) >>= λ invoked.
     end_from action.0 invoked (later_words action.1) >>= λ end.
@@ -48,8 +50,8 @@ order_of key words =
 unfoldable pub held_of : Option (List ℕ) → List (List ℕ) → Result Held Cause
 held_of last words =
     key_above last (first_word words) >>= λ key.
-    stamp_from (later_words words) >>= λ stamp.
-    clouds_word_of (first_word stamp.1) >>= λ clouds.
+    any_stamp_from (later_words words) >>= λ stamp.
+    store_clouds_of (first_word stamp.1) >>= λ clouds.
     end_of (later_words stamp.1) >>= λ _.
     Ok (record { key = key; stamp = stamp.0; clouds = clouds })
 

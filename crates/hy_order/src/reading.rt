@@ -33,7 +33,7 @@ use crate::operation::Operation;
 use crate::operation_line::read_operation;
 use crate::order::{Order, Orders};
 use crate::report::{LAST_STEP, Report};
-use crate::slots::{read_clouds, read_due_key, read_key_above, read_numbers, read_stamp};
+use crate::slots::{read_any_stamp, read_due_key, read_key_above, read_numbers, read_store_clouds};
 use hy_base::{Cause, NoMemory, TextError, TextFault};
 use hy_record::{Action, Key};
 use hy_text::{LineError, Words, check_line_end, read_keyword, read_number};
@@ -273,19 +273,19 @@ fn read_closed_held(
     ensures gives { Gives result (held_in last (opened_seen line.old)) }
     ensures number { line.new.number ≡ line.old.number }
 {
-    let held = read_held(alloc, last, &mut line.words)?;
+    let held = read_held(last, &mut line.words)?;
     check_line_end(line.ended)?;
     Ok(held)
 }
 
 /// The retrievable copies of a key, of the words behind the keyword.
 #[tactic(auto, unfolding(crate::specs::ReportReading::held_of))]
-fn read_held(alloc: Global, last: Option<Key>, words: &mut Words) -> Result<Held, LineError>
+fn read_held(last: Option<Key>, words: &mut Words) -> Result<Held, LineError>
     ensures { Gives result (held_of last words.old) }
 {
     let key = read_key_above(last, words.next_word())?;
-    let stamp = read_stamp(words)?;
-    let clouds = read_clouds(alloc, words.next_word())?;
+    let stamp = read_any_stamp(words)?;
+    let clouds = read_store_clouds(words.next_word())?;
     words.end()?;
     Ok(Held { key, stamp, clouds })
 }

@@ -3,7 +3,7 @@ use Rattle.std.proofs.Common.{append_assoc}
 use Rattle.std.proofs.lemmas.List.{map_more}
 use Rattle.std.specs.Fmt.{decimal}
 use Rattle.hy_text.proofs.Spaced.{led_by-more}
-use Rattle.hy_order.proofs.writing.push_numbers.Goals as goal
+use Rattle.hy_text.proofs.writing.push_numbers.Goals as goal
 
 pub loop-number-preserved : goal.loop-number-preserved
 loop-number-preserved c =

@@ -1,8 +1,8 @@
 -- One cloud more of the range is one number more, where it is in the set.
 use Rattle.std.proofs.Common.{arith, rules}
-use Rattle.hy_order.proofs.Clouds.{clouds_below-there, clouds_below-absent, clouds_below-all}
-use Rattle.hy_order.proofs.writing.cloud_numbers.Goals as goal
-use Rattle.hy_order.proofs.writing.cloud_numbers.Goals.{then-clouds-cloud-eq1+in_ok-push, else-clouds-cloud-eq1}
+use Rattle.hy_text.proofs.CloudBits.{clouds_below-there, clouds_below-absent, clouds_below-all}
+use Rattle.hy_text.proofs.clouds.cloud_numbers.Goals as goal
+use Rattle.hy_text.proofs.clouds.cloud_numbers.Goals.{then-clouds-cloud-eq1+in_ok-push, else-clouds-cloud-eq1}
 
 pub loop-cloud-preserved : goal.loop-cloud-preserved
 loop-cloud-preserved c = elim c.if-clouds-cloud-eq1.branch [

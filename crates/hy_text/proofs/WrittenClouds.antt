@@ -3,7 +3,7 @@ use Rattle.std.proofs.Common.{◌≡◌, ℕ, List, ◌∷◌, ◌++◌, map, ap
 use Rattle.std.specs.Fmt.{decimal}
 use Rattle.hy_text.specs.Line.{led_by}
 use Rattle.hy_text.proofs.Spaced.{join_with_byte-cons}
-use Rattle.hy_order.specs.Report.{cloud_word}
+use Rattle.hy_text.specs.Clouds.{cloud_word}
 
 -- a list of clouds, written as its first number and then the others led by commas
 pub cloud_word_joined : (old x1 x2 : List ℕ) (clouds rest : List ℕ) (first : ℕ) → clouds ≡ first ∷ rest

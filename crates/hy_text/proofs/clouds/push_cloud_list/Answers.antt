@@ -1,6 +1,6 @@
 -- The clouds behind the first are led by commas.
-use Rattle.hy_order.proofs.WrittenClouds.{cloud_word_joined}
-use Rattle.hy_order.proofs.writing.push_clouds.Goals as goal
+use Rattle.hy_text.proofs.WrittenClouds.{cloud_word_joined}
+use Rattle.hy_text.proofs.clouds.push_cloud_list.Goals as goal
 
 pub returns : goal.returns
 returns c =
