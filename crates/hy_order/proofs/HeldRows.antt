@@ -18,15 +18,16 @@ use Rattle.hy_text.proofs.Keys.{key_again}
 use Rattle.hy_base.proofs.Results.{bind_ok, ok_is}
 use Rattle.hy_text.proofs.Slots.{end_takes, words_from_first}
 use Rattle.hy_order.specs.declared.held.Held.{Held}
-use Rattle.hy_order.specs.OpenLine.{OpenLine, Rest}
+use Rattle.hy_text.specs.Kind.{items_from}
+use Rattle.hy_text.specs.OpenLine.{OpenLine, Rest}
 use Rattle.hy_base.specs.declared.limits.TheConstants.{MAX_COUNT, MAX_N}
 use Rattle.hy_text.specs.Clouds.{cloud_word}
 use Rattle.hy_text.specs.Stamp.{stamp_words}
 use Rattle.hy_order.specs.Report.{held_row}
 use Rattle.hy_order.specs.ReportRanges.{IsTextHeld}
-use Rattle.hy_order.specs.ReportReading.{held_of, held_in, held_lines, items_from}
+use Rattle.hy_order.specs.ReportReading.{held_of_words, held_lines}
 use Rattle.hy_order.specs.WordReaders.{is_above, key_above, store_clouds_of, any_stamp_from}
-use Rattle.hy_order.proofs.LineGroups.{closed_ok, Takes, AreLinesOf, FitAlong, line_of_row, items_take}
+use Rattle.hy_text.proofs.ItemRows.{Takes, ReadsAgain, AreLinesOf, FitAlong, items_take}
 use Rattle.hy_text.proofs.CloudWords.{clouds_take, clouds_again, is_word-clouds}
 use Rattle.hy_text.proofs.Groups.{key_first, stamp_takes, stamp_again}
 
@@ -51,13 +52,13 @@ key_above_takes last word key e =
     let ok = above_ok (is_above last read.0) read.0 key read.2 in
     (read.1 ∙ ap (λ (k : List ℕ). Ok k) ok.1, ap (is_above last) (sym ok.1) ∙ ok.0)
 
--- the words behind the keyword are those of the copies
+-- the words after the keyword are those of the copies
 record SpellsHeld (last : Option (List ℕ)) (words : List (List ℕ)) (held : Held) : Type 0 where
   row : codes "held" ∷ words ≡ held_row held
   fits : FitsAbove last held
 
-held_takes : (last : Option (List ℕ)) (words : List (List ℕ)) (held : Held) → held_of last words ≡ Ok held → SpellsHeld last words held
-unfolding held_of
+held_takes : (last : Option (List ℕ)) (words : List (List ℕ)) (held : Held) → held_of_words last words ≡ Ok held → SpellsHeld last words held
+unfolding held_of_words
 held_takes last words held e =
     let key = bind_ok (key_above last (first_word words)) _ held e in
     let stamp = bind_ok (any_stamp_from (later_words words)) _ held key.2 in
@@ -79,11 +80,10 @@ held_takes last words held e =
     })
 
 held_line_takes : Takes held_lines held_row FitsAbove AnyLast
-held_line_takes last line held holds due e =
-    let parts = closed_ok line.ended (held_of last line.words) held e in
-    let spells = held_takes last line.words held parts.1 in
-    let word : line.keyword ≡ codes "held" = (bytes_eq-Decides line.keyword (codes "held")).0 due in
-    record { row = ap (λ (w : List ℕ). w ∷ line.words) word ∙ spells.row; ended = parts.0; fits = spells.fits }
+held_line_takes last keyword words held holds due e =
+    let spells = held_takes last words held e in
+    let word : keyword ≡ codes "held" = (bytes_eq-Decides keyword (codes "held")).0 due in
+    record { row = ap (λ (w : List ℕ). w ∷ words) word ∙ spells.row; fits = spells.fits }
 
 pub helds_take : (number : ℕ) (lines : List OpenLine) (read : List Held × Rest) → items_from held_lines None number lines ≡ Ok read → AreLinesOf held_lines held_row FitsAbove None lines read
 helds_take number lines read e = items_take held_lines held_row FitsAbove AnyLast held_line_takes (λ last held holds. tt) None number lines read tt e
@@ -102,40 +102,40 @@ all_above low key (other ∷ keys) less all = (nat_list_cmp_total.trans low key 
 abbrev keys_in : List Held → List (List ℕ)
 keys_in helds = map (λ (held : Held). held.key) helds
 
-rising_behind : (last : List ℕ) (helds : List Held) → FitAlong held_lines FitsAbove (Some last) helds
+rising_after : (last : List ℕ) (helds : List Held) → FitAlong held_lines FitsAbove (Some last) helds
     → AllByRecursion (λ other. slice_cmp nat_cmp last other ≡ Less) (keys_in helds) × IsStrictlySortedBy (slice_cmp nat_cmp) (keys_in helds)
 unfolding IsStrictlySortedBy
-rising_behind last [] fits = (tt, tt)
-rising_behind last (held ∷ helds) fits =
+rising_after last [] fits = (tt, tt)
+rising_after last (held ∷ helds) fits =
     let less : slice_cmp nat_cmp last held.key ≡ Less = is_less _ fits.0.above in
-    let more = rising_behind held.key helds fits.1 in
+    let more = rising_after held.key helds fits.1 in
     ((less, all_above last held.key (keys_in helds) less more.0), more)
 
 pub rising : (helds : List Held) → FitAlong held_lines FitsAbove None helds → IsStrictlySortedBy (slice_cmp nat_cmp) (keys_in helds)
 unfolding IsStrictlySortedBy
 rising [] fits = tt
-rising (held ∷ helds) fits = rising_behind held.key helds fits.1
+rising (held ∷ helds) fits = rising_after held.key helds fits.1
 
 pub ranges_taken : (last : Option (List ℕ)) (helds : List Held) → FitAlong held_lines FitsAbove last helds → AllByRecursion IsTextHeld helds
 ranges_taken last [] fits = tt
 ranges_taken last (held ∷ helds) fits = (fits.0.range, ranges_taken (Some held.key) helds fits.1)
 
-helds_fit_behind : (last : List ℕ) (helds : List Held) → AllByRecursion IsTextHeld helds → AllByRecursion (λ other. slice_cmp nat_cmp last other ≡ Less) (keys_in helds) → IsStrictlySortedBy (slice_cmp nat_cmp) (keys_in helds)
+helds_fit_after : (last : List ℕ) (helds : List Held) → AllByRecursion IsTextHeld helds → AllByRecursion (λ other. slice_cmp nat_cmp last other ≡ Less) (keys_in helds) → IsStrictlySortedBy (slice_cmp nat_cmp) (keys_in helds)
     → FitAlong held_lines FitsAbove (Some last) helds
 unfolding IsStrictlySortedBy
-helds_fit_behind last [] ranges above sorted = tt
-helds_fit_behind last (held ∷ helds) ranges above sorted =
-    (record { range = ranges.0; above = ap is_lt above.0 }, helds_fit_behind held.key helds ranges.1 sorted.0 sorted.1)
+helds_fit_after last [] ranges above sorted = tt
+helds_fit_after last (held ∷ helds) ranges above sorted =
+    (record { range = ranges.0; above = ap is_lt above.0 }, helds_fit_after held.key helds ranges.1 sorted.0 sorted.1)
 
 pub helds_fit : (helds : List Held) → AllByRecursion IsTextHeld helds → IsStrictlySortedBy (slice_cmp nat_cmp) (keys_in helds) → FitAlong held_lines FitsAbove None helds
 unfolding IsStrictlySortedBy
 helds_fit [] ranges sorted = tt
-helds_fit (held ∷ helds) ranges sorted = (record { range = ranges.0; above = refl }, helds_fit_behind held.key helds ranges.1 sorted.0 sorted.1)
+helds_fit (held ∷ helds) ranges sorted = (record { range = ranges.0; above = refl }, helds_fit_after held.key helds ranges.1 sorted.0 sorted.1)
 
 -- ---- copies are read again
 
-pub held_again : (last : Option (List ℕ)) (held : Held) → FitsAbove last held → (bytes_eq (codes "held") (codes "held") ≡ true) × (held_in last (line_of_row (held_row held)) ≡ Ok held)
-unfolding held_of
+pub held_again : ReadsAgain held_lines held_row FitsAbove
+unfolding held_of_words
 held_again last held fits =
     let stamp = stamp_again 0 MAX_COUNT held.stamp (cloud_word (clouds_of held.clouds) ∷ []) (omega arith) fits.range.stamp in
     (refl, rw (key_again held.key fits.range.key, fits.above, stamp, clouds_again (MAX_N - 1) held.clouds (omega arith) fits.range.clouds) refl)

@@ -1,7 +1,6 @@
 pub mod ReportLaws
 pub mod OrderRows
 pub mod HeldRows
-pub mod LineGroups
 pub mod EndRows
 pub mod OperationRows
 pub mod DueKeys

@@ -3,7 +3,7 @@
 ghost use Rattle.std.specs.Prelude.{◌≡◌, IfOk, ◌≤◌};
 ghost use Rattle.hy_text.specs.Gives.{Gives, Takes, TakesExactly};
 ghost use Rattle.hy_order.specs.History.{is_phase_of};
-ghost use Rattle.hy_order.specs.ReportReading.{operation_of};
+ghost use Rattle.hy_order.specs.ReportReading.{operation_of_words};
 ghost use Rattle.hy_order.specs.WordReaders.{
   phase_word_of,
   write_reply_from,
@@ -21,19 +21,72 @@ use crate::report::LAST_STEP;
 use crate::slots::{read_any_stamp, read_number_after};
 use hy_base::{Cause, MAX_COUNT, MAX_TEXT_VALUE};
 use hy_record::{Action, Phase, Reply};
-use hy_text::{LineError, Words, read_action, read_number, read_phase, read_u32, read_value};
+use hy_text::{LineError, LineKind, Words, read_action, read_number, read_phase, read_u32, read_value};
 use std::alloc::Global;
+use std::marker::Model;
 
-/// The operation that the words print which stand behind the keyword; the last number and the last step stand before.
-#[tactic(auto, unfolding(crate::specs::ReportReading::operation_of))]
-pub(crate) fn read_operation(
+/// The lines of operations, after the last one's number and step.
+#[derive(Drop)]
+pub(crate) struct OperationLines {
+    number: u32,
+    step: u64,
+}
+
+impl Model for OperationLines {
+    ghost use Rattle.std.specs.Prelude.{◌≤◌};
+    ghost use Rattle.hy_order.specs.ReportReading.{Before};
+    ghost use Rattle.hy_order.specs.declared.report.TheConstants.{LAST_STEP};
+
+    ghost Value = { Before };
+
+    ghost view = { λ lines. record { number = lines.number; step = lines.step } };
+
+    ghost invariant = { λ lines. lines.step ≤ LAST_STEP };
+}
+
+impl OperationLines {
+    /// The lines from the first on.
+    pub(crate) fn new() -> OperationLines
+        ensures { result ≡ record { number = 0; step = 0 } }
+    {
+        OperationLines { number: 0, step: 0 }
+    }
+}
+
+impl LineKind for OperationLines {
+    ghost use Rattle.hy_order.specs.ReportReading.{operation_lines};
+
+    type Item = Operation;
+
+    ghost kind = { operation_lines };
+
+    fn is_due(&self, keyword: &[u8]) -> bool {
+        keyword == b"op".as_slice()
+    }
+
+    fn read(
+        &mut self,
+        alloc: Global,
+        _keyword: &[u8],
+        words: &mut Words,
+    ) -> Result<Operation, LineError> {
+        let op = read_operation(alloc, self.number, self.step, words)?;
+        self.number = op.number;
+        self.step = op.invoked;
+        Ok(op)
+    }
+}
+
+/// The operation that the words after the keyword print; the last number and the last step stand before.
+#[tactic(auto, unfolding(crate::specs::ReportReading::operation_of_words))]
+fn read_operation(
     alloc: Global,
     last: u32,
     step: u64,
     words: &mut Words,
 ) -> Result<Operation, LineError>
     requires { step ≤ LAST_STEP }
-    ensures gives { Gives result (operation_of last step words.old) }
+    ensures gives { Gives result (operation_of_words last step words.old) }
     ensures range { IfOk result (λ op. op.invoked ≤ LAST_STEP) }
 {
     let number = read_number_after(last, words.next_word())?;
@@ -69,7 +122,7 @@ fn read_end(
     read_replied(alloc, action, invoked, word, words)
 }
 
-/// The end of an operation with a reply, of the word that tells when and the words behind it.
+/// The end of an operation with a reply, of the word that tells when and the words after it.
 #[tactic(auto, unfolding(crate::specs::WordReaders::replied_from))]
 fn read_replied(
     alloc: Global,
@@ -86,7 +139,7 @@ fn read_replied(
     Ok(End::Replied { at, reply })
 }
 
-/// The end of an operation without a reply, of the words behind its dash.
+/// The end of an operation without a reply, of the words after its dash.
 #[tactic(auto, unfolding(crate::specs::WordReaders::pending_from))]
 fn read_pending(action: &Action, words: &mut Words) -> Result<End, Cause>
     ensures { TakesExactly result words.new (pending_from action.now words.old) }
@@ -169,7 +222,7 @@ fn read_get_reply(alloc: Global, words: &mut Words) -> Result<Reply, LineError>
     Err(LineError::Bad(Cause::BadWord))
 }
 
-/// The value that a get was told, of the words behind the keyword.
+/// The value that a get was told, of the words after the keyword.
 #[tactic(auto, unfolding(crate::specs::WordReaders::value_from))]
 fn read_value_reply(alloc: Global, words: &mut Words) -> Result<Reply, LineError>
     ensures { Takes result words.new (value_from words.old) }

@@ -9,3 +9,5 @@ pub mod Phase
 pub mod Clouds
 pub mod Gives
 pub mod Cause
+pub mod OpenLine
+pub mod Kind

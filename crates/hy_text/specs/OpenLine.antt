@@ -1,11 +1,10 @@
 -- Lines of a text whose first word is known before the rest is read.
-use Rattle.std.specs.Prelude.{◌≡◌, ℕ, Bool, false, List, [], ◌∷◌, map, Option, Some, None}
-use Rattle.std.specs.Str.{bytes_eq}
+use Rattle.std.specs.Prelude.{◌≡◌, ℕ, Bool, List, [], ◌∷◌, map, Option, Some, None}
 use Rattle.hy_text.specs.Gives.{next_number}
 use Rattle.hy_text.specs.Line.{Line, first_word, later_words}
-use Rattle.hy_order.specs.declared.cursor.OpenLine as given
+use Rattle.hy_text.specs.declared.cursor.OpenLine as given
 
--- a line: its first word, the words behind it, and whether a line feed ends it
+-- a line: its first word, the words after it, and whether a line feed ends it
 pub record OpenLine : Type 0 where
   pub keyword : List ℕ
   pub words : List (List ℕ)
@@ -29,18 +28,18 @@ abbrev pub lines_left : Option given.OpenLine → List Line → List OpenLine
 lines_left None later = []
 lines_left (Some line) later = opened_seen line ∷ map opened later
 
+-- the first word of the next line
+abbrev pub next_keyword : List OpenLine → Option (List ℕ)
+next_keyword [] = None
+next_keyword (line ∷ lines) = Some line.keyword
+
 -- the next line, if there is any, has the number
 abbrev pub HasNumber : ℕ → Option given.OpenLine → Type 0
 HasNumber number None = Unit {0}
 HasNumber number (Some line) = line.number ≡ number
 
--- the line was the next one, and those behind it are left
+-- the line was the next one, and those after it are left
 pub record IsNextLine (old : Rest) (line : given.OpenLine) (new : Rest) : Type 0 where
   pub lines : old.lines ≡ opened_seen line ∷ new.lines
   pub here : line.number ≡ old.number
   pub number : new.number ≡ next_number old.number
-
--- the next line begins with the keyword
-abbrev pub is_at : List ℕ → List OpenLine → Bool
-is_at keyword [] = false
-is_at keyword (line ∷ lines) = bytes_eq line.keyword keyword

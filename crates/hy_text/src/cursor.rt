@@ -1,20 +1,23 @@
 //! The lines of a text, taken one by one by their first word.
 
-ghost use Rattle.std.specs.Prelude.{◌≡◌, map, MatchOption, IfSome, false, true, []};
-ghost use Rattle.std.specs.Str.{bytes_eq};
+ghost use Rattle.std.specs.Prelude.{◌≡◌, map, MatchOption, IfSome, []};
+ghost use Rattle.std.specs.Option.{option_copied};
+ghost use Rattle.hy_base.specs.declared.fault.TextError.TheVariants as errors;
 ghost use Rattle.hy_text.specs.Line.{lines_of};
 
-use hy_text::{Line, Lines, Words};
+use crate::line::{Line, Lines};
+use crate::word::Words;
+use hy_base::{Cause, TextError, TextFault};
 use std::marker::Model;
 
 /// A line whose first word has been read.
 #[derive(Drop)]
-pub(crate) struct OpenLine<'a> {
+pub struct OpenLine<'a> {
     /// Its number, counted from 1.
     pub number: u32,
     /// Its first word.
     pub keyword: &'a [u8],
-    /// The words behind the first.
+    /// The words after the first.
     pub words: Words<'a>,
     /// Whether a line feed ends it.
     pub ended: bool,
@@ -22,14 +25,14 @@ pub(crate) struct OpenLine<'a> {
 
 /// The lines that are left of a text, the next of them open.
 #[derive(Drop)]
-pub(crate) struct Cursor<'a> {
+pub struct Cursor<'a> {
     number: u32,
     next: Option<OpenLine<'a>>,
     later: Lines<'a>,
 }
 
 impl<'a> Model for Cursor<'a> {
-    ghost use Rattle.hy_order.specs.OpenLine.{Rest, lines_left, HasNumber};
+    ghost use Rattle.hy_text.specs.OpenLine.{Rest, lines_left, HasNumber};
 
     ghost Value = { Rest };
 
@@ -39,10 +42,12 @@ impl<'a> Model for Cursor<'a> {
 }
 
 impl<'a> Cursor<'a> {
-    ghost use Rattle.hy_order.specs.OpenLine.{Rest, IsNextLine, opened, is_at};
+    ghost use Rattle.hy_text.specs.Gives.{GivesText};
+    ghost use Rattle.hy_text.specs.Kind.{nothing_in};
+    ghost use Rattle.hy_text.specs.OpenLine.{Rest, IsNextLine, next_keyword, opened};
 
     /// The lines of the text.
-    pub(crate) fn of(text: &'a [u8]) -> Cursor<'a>
+    pub fn of(text: &'a [u8]) -> Cursor<'a>
         ensures { result ≡ record { number = 1; lines = map opened (lines_of text.now) } }
     {
         let mut later = Lines::of(text);
@@ -54,15 +59,38 @@ impl<'a> Cursor<'a> {
         }
     }
 
-    /// The number of the next line.
-    pub(crate) fn number(&self) -> u32
-        ensures { result ≡ self.now.number }
+    /// The first word of the next line.
+    pub fn next_keyword(&self) -> Option<&'a [u8]>
+        ensures { option_copied result ≡ next_keyword self.now.lines }
     {
-        self.number
+        match &self.next {
+            Some(line) => Some(line.keyword),
+            None => None,
+        }
+    }
+
+    /// The fault of the next line, or of the place where it would stand.
+    pub fn fault(&self, cause: Cause) -> TextError
+        ensures { result ≡ errors.Fault (record { line = self.now.number; cause = cause }) }
+    {
+        TextError::Fault(TextFault {
+            line: self.number,
+            cause,
+        })
+    }
+
+    /// Whether no line is left; one that is left is one too many.
+    pub fn end(&self) -> Result<(), TextError>
+        ensures { GivesText result (nothing_in self.now.number self.now.lines) }
+    {
+        match self.next {
+            None => Ok(()),
+            Some(_) => Err(self.fault(Cause::Extra)),
+        }
     }
 
     /// Takes the next line.
-    pub(crate) fn take(&mut self) -> Option<OpenLine<'a>>
+    pub fn take(&mut self) -> Option<OpenLine<'a>>
         ensures { MatchOption result ((self.old.lines ≡ []) × (self.new ≡ self.old))
             (λ line. IsNextLine self.old line self.new) }
     {
@@ -71,21 +99,10 @@ impl<'a> Cursor<'a> {
         self.next = OpenLine::first_of(&mut self.later, self.number);
         Some(line)
     }
-
-    /// Takes the next line, where it begins with the keyword.
-    pub(crate) fn take_by(&mut self, keyword: &[u8]) -> Option<OpenLine<'a>>
-        ensures { MatchOption result ((is_at keyword.now self.old.lines ≡ false) × (self.new ≡ self.old))
-            (λ line. IsNextLine self.old line self.new × (bytes_eq line.keyword.now keyword.now ≡ true)) }
-    {
-        match &self.next {
-            Some(line) if line.keyword == keyword => self.take(),
-            _ => None,
-        }
-    }
 }
 
 impl<'a> OpenLine<'a> {
-    ghost use Rattle.hy_order.specs.OpenLine.{lines_left, opened};
+    ghost use Rattle.hy_text.specs.OpenLine.{lines_left, opened};
 
     /// The first of the lines, which has this number, and takes it out of them.
     fn first_of(lines: &mut Lines<'a>, number: u32) -> Option<OpenLine<'a>>
