@@ -17,7 +17,7 @@ use Rattle.hy_text.specs.Line.{first_word, later_words}
 use Rattle.hy_base.specs.Results.{◌>>=◌}
 use Rattle.hy_text.specs.Slot.{number_of, value_of, value_word}
 use Rattle.hy_base.proofs.Results.{bind_ok, ok_is}
-use Rattle.hy_text.proofs.Slots.{words_from_first, chosen, behind}
+use Rattle.hy_text.proofs.Slots.{words_from_first, chosen, keyword_first}
 use Rattle.hy_order.specs.declared.operation.End.{End}
 use Rattle.hy_order.specs.declared.operation.End.TheVariants.{Replied, Pending}
 use Rattle.hy_order.specs.declared.report.TheConstants.{LAST_STEP}
@@ -40,7 +40,7 @@ pub record IsReplyOf (action : Action) (reply : Reply) : Type 0 where
   pub range : IsTextReply reply
   pub can : is_reply_of action reply ≡ true
 
--- the words of a reply that is a timestamp behind its keyword
+-- the words of a reply that is a timestamp after its keyword
 stamped_takes : (action : Action) (told_as : Timestamp → Reply) (word : List ℕ) (words : List (List ℕ)) (read : Reply × List (List ℕ))
     → ((stamp : Timestamp) → reply_words (told_as stamp) ≡ word ∷ stamp_words stamp) → ((stamp : Timestamp) → IsTextStamp stamp → IsReplyOf action (told_as stamp))
     → (any_stamp_from words >>= λ stamp. Ok (told_as stamp.0, stamp.1)) ≡ Ok read → Spells reply_words (IsReplyOf action) (word ∷ words) read
@@ -60,10 +60,10 @@ unfolding write_reply_from
 write_takes action words read done exhausted e =
     let P : List (List ℕ) → Type 0 = λ ws. Spells reply_words (IsReplyOf action) ws read in
     elim (chosen (bytes_eq (first_word words) (codes "done")) (any_stamp_from (later_words words) >>= λ stamp. Ok (told.Done stamp.0, stamp.1)) _ read e) [
-      | inl yes_done ↦ subst P (sym (behind words (codes "done") yes_done.0 (omega arith)))
+      | inl yes_done ↦ subst P (sym (keyword_first words (codes "done") yes_done.0 (omega arith)))
           (stamped_takes action told.Done (codes "done") (later_words words) read (λ stamp. refl) (λ stamp fits. record { range = fits; can = done stamp }) yes_done.1)
       | inr other ↦ elim (chosen (bytes_eq (first_word words) (codes "exhausted")) (any_stamp_from (later_words words) >>= λ stamp. Ok (told.Exhausted stamp.0, stamp.1)) (Err BadWord) read other) [
-        | inl yes_exhausted ↦ subst P (sym (behind words (codes "exhausted") yes_exhausted.0 (omega arith)))
+        | inl yes_exhausted ↦ subst P (sym (keyword_first words (codes "exhausted") yes_exhausted.0 (omega arith)))
             (stamped_takes action told.Exhausted (codes "exhausted") (later_words words) read (λ stamp. refl) (λ stamp fits. record { range = fits; can = exhausted stamp }) yes_exhausted.1)
         | inr bad ↦ absurd cc
       ]
@@ -87,9 +87,9 @@ unfolding get_reply_from
 get_takes key words read e =
     let P : List (List ℕ) → Type 0 = λ ws. Spells reply_words (IsReplyOf (asked.Get key)) ws read in
     elim (chosen (bytes_eq (first_word words) (codes "value")) (value_from (later_words words)) _ read e) [
-      | inl found ↦ subst P (sym (behind words (codes "value") found.0 (omega arith))) (value_takes key (later_words words) read found.1)
+      | inl found ↦ subst P (sym (keyword_first words (codes "value") found.0 (omega arith))) (value_takes key (later_words words) read found.1)
       | inr other ↦ elim (chosen (bytes_eq (first_word words) (codes "none")) (any_stamp_from (later_words words) >>= λ stamp. Ok (told.Absent stamp.0, stamp.1)) (Err BadWord) read other) [
-        | inl absent ↦ subst P (sym (behind words (codes "none") absent.0 (omega arith)))
+        | inl absent ↦ subst P (sym (keyword_first words (codes "none") absent.0 (omega arith)))
             (stamped_takes (asked.Get key) told.Absent (codes "none") (later_words words) read (λ stamp. refl) (λ stamp fits. record { range = fits; can = refl }) absent.1)
         | inr bad ↦ absurd cc
       ]
@@ -104,7 +104,7 @@ collect_takes key words read e =
       | inl collected ↦
           let count = bind_ok (number_of 0 MAX_COUNT (first_word later)) (λ count. Ok (told.Collected count, later_words later)) read collected.1 in
           let n = number_first 0 MAX_COUNT later count.0 (omega arith) count.1 in
-          subst P (sym (behind words (codes "collected") collected.0 (omega arith)))
+          subst P (sym (keyword_first words (codes "collected") collected.0 (omega arith)))
           (subst (Spells reply_words (IsReplyOf (asked.Collect key)) (codes "collected" ∷ later)) (ok_is (told.Collected count.0, later_words later) read count.2)
           (record { row = ap (λ (ws : List (List ℕ)). codes "collected" ∷ ws) n.row; fits = record { range = n.high_end; can = refl } }))
       | inr bad ↦ absurd cc
@@ -168,7 +168,7 @@ unfolding end_from
 end_takes action invoked words read e =
     let P : List (List ℕ) → Type 0 = λ ws. Spells end_words (IsEndOf action invoked) ws read in
     elim (chosen (bytes_eq (first_word words) (codes "-")) (pending_from action (later_words words)) (replied_from action invoked (first_word words) (later_words words)) read e) [
-      | inl pending ↦ subst P (sym (behind words (codes "-") pending.0 (omega arith))) (pending_takes action invoked (later_words words) read pending.1)
+      | inl pending ↦ subst P (sym (keyword_first words (codes "-") pending.0 (omega arith))) (pending_takes action invoked (later_words words) read pending.1)
       | inr replied ↦ replied_takes action invoked words read replied
     ]
 

@@ -13,7 +13,7 @@ use Rattle.hy_text.specs.Stamp.{stamp_words}
 use Rattle.hy_order.specs.Report.{operation_row, order_row, held_row, end_words}
 use Rattle.hy_text.proofs.Spaced.{led_by-append, line_text-cons}
 
--- words behind the first, written group by group
+-- words after the first, written group by group
 line_of_groups : (old first a b c d : List ℕ) (words : List (List ℕ)) → spaced words ≡ a ++ (b ++ (c ++ d))
     → (((((old ++ first) ++ a) ++ b) ++ c) ++ d) ++ 10 ∷ [] ≡ old ++ line_text (first ∷ words)
 line_of_groups old first a b c d words groups =

@@ -20,7 +20,7 @@ use Rattle.hy_text.specs.Kind.{is_next_due, items_from}
 use Rattle.hy_text.specs.OpenLine.{OpenLine, Rest}
 use Rattle.hy_order.specs.Report.{order_row}
 use Rattle.hy_order.specs.ReportRanges.{IsTextNumber}
-use Rattle.hy_order.specs.ReportReading.{order_of_words, order_due, order_lines, has_key}
+use Rattle.hy_order.specs.ReportReading.{order_of_words, order_due, order_lines, is_key_due}
 use Rattle.hy_order.specs.WordReaders.{due_key, numbers_of}
 use Rattle.hy_text.proofs.ItemRows.{Takes, ReadsAgain, AreLinesOf, FitAlong, state_after, items_take}
 
@@ -52,7 +52,7 @@ due_taken false u e = absurd cc
 
 -- the order is of the first key that is due, and its numbers are in range
 pub record FitsKeys (keys : List (List ℕ)) (order : Order) : Type 0 where
-  pub there : has_key keys ≡ true
+  pub there : is_key_due keys ≡ true
   pub key : order.key ≡ first_word keys
   pub numbers : AllByRecursion IsTextNumber order.ops
 

@@ -51,7 +51,7 @@ abbrev pub IsTextEnd : ℕ → End → Type 0
 IsTextEnd invoked (Replied at reply) = (invoked < at) × (at ≤ LAST_STEP) × IsTextReply reply
 IsTextEnd invoked (Pending at have need) = (have ≤ MAX_COUNT) × (need ≤ MAX_COUNT)
 
--- the operation is in range, and was invoked behind this step
+-- the operation is in range, and was invoked after this step
 pub record IsTextOperation (step : ℕ) (op : Operation) : Type 0 where
   pub number : op.number ≤ MAX_COUNT
   pub client_low : 1 ≤ op.client
@@ -61,7 +61,7 @@ pub record IsTextOperation (step : ℕ) (op : Operation) : Type 0 where
   pub invoked_high : op.invoked ≤ LAST_STEP
   pub end : IsTextEnd op.invoked op.end
 
--- the operations are in range, and each was invoked behind the one before it, the first behind this step
+-- the operations are in range, and each was invoked after the one before it, the first after this step
 abbrev pub AreTextOperations : ℕ → List Operation → Type 0
 AreTextOperations step [] = Unit {0}
 AreTextOperations step (op ∷ ops) = IsTextOperation step op × AreTextOperations op.invoked ops

@@ -72,9 +72,9 @@ operation_lines = record {
 }
 
 -- whether a key is due
-abbrev pub has_key : List (List ℕ) → Bool
-has_key [] = false
-has_key (key ∷ keys) = true
+abbrev pub is_key_due : List (List ℕ) → Bool
+is_key_due [] = false
+is_key_due (key ∷ keys) = true
 
 -- the line of an order of the first key that is due
 abbrev pub order_due : List (List ℕ) → List ℕ → List (List ℕ) → Result Order Cause
@@ -84,7 +84,7 @@ order_due (key ∷ keys) word words = keyword (codes "order") word >>= λ _. ord
 -- the lines of orders, one for each key that is due
 abbrev pub order_lines : Kind (List (List ℕ)) Order
 order_lines = record {
-  is_due = λ keys word. has_key keys;
+  is_due = λ keys word. is_key_due keys;
   read = λ keys word words. order_due keys word words;
   next = λ keys order. later_words keys;
 }

@@ -25,7 +25,7 @@ use Rattle.hy_order.specs.declared.report.TheConstants.{LAST_STEP}
 
 -- ---- slots
 
--- the slot of the number behind the last one; the last number of all has none behind it
+-- the slot of the number after the last one; the last number of all has none after it
 abbrev pub number_after : ℕ → List ℕ → Result ℕ Cause
 number_after last word = number_of (last + 1) (min (last + 1) MAX_COUNT) word
 
@@ -63,7 +63,7 @@ write_reply_from words =
     else if bytes_eq (first_word words) (codes "exhausted") then (any_stamp_from (later_words words) >>= λ stamp. Ok (told.Exhausted stamp.0, stamp.1))
     else Err BadWord
 
--- the value that a get was told, behind its keyword
+-- the value that a get was told, after its keyword
 unfoldable pub value_from : List (List ℕ) → Result (Reply × List (List ℕ)) Cause
 value_from words =
     value_of MAX_TEXT_VALUE (first_word words) >>= λ value.
@@ -91,7 +91,7 @@ reply_from (asked.Get key) words = get_reply_from words
 reply_from (asked.Delete key) words = write_reply_from words
 reply_from (asked.Collect key) words = collect_reply_from words
 
--- the end of an operation that has no reply yet, behind its dash
+-- the end of an operation that has no reply yet, after its dash
 unfoldable pub pending_from : Action → List (List ℕ) → Result (End × List (List ℕ)) Cause
 pending_from action words =
     phase_word_of action (first_word words) >>= λ at.
@@ -99,7 +99,7 @@ pending_from action words =
     number_of 0 MAX_COUNT (first_word (later_words (later_words words))) >>= λ need.
     Ok (Pending at have need, later_words (later_words (later_words words)))
 
--- the end of an operation that was invoked at this step and has a reply: the word that tells when, and the words behind it
+-- the end of an operation that was invoked at this step and has a reply: the word that tells when, and the words after it
 unfoldable pub replied_from : Action → ℕ → List ℕ → List (List ℕ) → Result (End × List (List ℕ)) Cause
 replied_from action invoked word words =
     number_of (invoked + 1) LAST_STEP word >>= λ at.

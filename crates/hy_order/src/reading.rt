@@ -30,8 +30,8 @@ use std::collections::BTreeSet;
 ///
 /// A fault names the first line that does not fit, counted from 1, and the cause that the first word
 /// from the left has which does not fit. A line of another kind in the place of one that is due is
-/// `BadWord`, another key than the one due is `BadKey`, a line behind the last is `Extra`, and where
-/// the text ends before its last line, `NoEnd` names the line behind it.
+/// `BadWord`, another key than the one due is `BadKey`, a line after the last is `Extra`, and where
+/// the text ends before its last line, `NoEnd` names the line after it.
 pub fn read_report(alloc: Global, text: &[u8]) -> Result<Report, TextError>
     // Which report, or which fault: the first of the text.
     ensures exact { GivesText result (report_of text.now) }
@@ -89,8 +89,8 @@ fn keys_due(alloc: Global, ops: &[Operation]) -> Result<Vec<Key>, NoMemory>
     ensures { IfOk result (λ keys. keys.items ≡ sorted_keys (register_keys ops.now)) }
 {
     let mut keys = BTreeSet::new(alloc);
-    for place in (0..ops.len()).rev() {
-        if let Some(key) = register_key(&ops[place].action) {
+    for op in ops {
+        if let Some(key) = register_key(&op.action) {
             keys.insert(key)?;
         }
     }

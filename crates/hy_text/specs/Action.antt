@@ -43,7 +43,7 @@ IsTextAction (asked.Get key) = IsTrue (is_key key)
 IsTextAction (asked.Delete key) = IsTrue (is_key key)
 IsTextAction (asked.Collect key) = IsTrue (is_key key)
 
--- the action of a verb on a key, with the words behind the key
+-- the action of a verb on a key, with the words after the key
 unfoldable pub action_by : Verb → List ℕ → List (List ℕ) → Result (Action × List (List ℕ)) Cause
 action_by Put key words = value_of MAX_TEXT_VALUE (first_word words) >>= λ value. Ok (asked.Put key value, later_words words)
 action_by Get key words = Ok (asked.Get key, words)

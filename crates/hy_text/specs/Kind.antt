@@ -6,7 +6,7 @@ use Rattle.hy_base.specs.declared.fault.Cause.{Cause}
 use Rattle.hy_base.specs.declared.fault.Cause.TheVariants.{Extra}
 use Rattle.hy_base.specs.declared.fault.TextError.{TextError}
 use Rattle.hy_base.specs.declared.fault.TextFault.{TextFault}
-use Rattle.hy_text.specs.Gives.{fault_of, at_line, next_number}
+use Rattle.hy_text.specs.Gives.{text_fault_of, at_line, next_number}
 use Rattle.hy_text.specs.OpenLine.{OpenLine, Rest}
 use Rattle.hy_text.specs.Slot.{end_of_line}
 
@@ -49,4 +49,4 @@ nothing_in number (line ∷ lines) = Err (record { line = number; cause = Extra 
 
 -- the code answers what the definition answers, and leaves the lines that it leaves, or answers its fault; or memory ran out
 abbrev pub TakesLines : {A B : Type 0} → (A → B) → Result A TextError → Rest → Result (B × Rest) TextFault → Type 0
-TakesLines seen result left due = results.Gives fault_of (λ x. (seen x, left)) result due
+TakesLines seen result left due = results.Gives text_fault_of (λ x. (seen x, left)) result due

@@ -50,7 +50,7 @@ pub fn read_action(alloc: Global, words: &mut Words) -> Result<Action, LineError
     read_action_by(alloc, verb, key, words)
 }
 
-/// The action of the verb on the key, with the words behind the key.
+/// The action of the verb on the key, with the words after the key.
 #[tactic(auto, unfolding(crate::specs::Action::action_by))]
 fn read_action_by(
     alloc: Global,

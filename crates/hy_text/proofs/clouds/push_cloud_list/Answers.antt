@@ -1,4 +1,4 @@
--- The clouds behind the first are led by commas.
+-- The clouds after the first are led by commas.
 use Rattle.hy_text.proofs.WrittenClouds.{cloud_word_joined}
 use Rattle.hy_text.proofs.clouds.push_cloud_list.Goals as goal
 
