@@ -26,3 +26,4 @@ pub mod Overwritten
 pub mod ReadPoints
 pub mod Placed
 pub mod Rereads
+pub mod Premises
