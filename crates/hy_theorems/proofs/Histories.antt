@@ -33,7 +33,9 @@ use Rattle.hy_theorems.proofs.Ordering.{all-sorted}
 use Rattle.hy_theorems.proofs.Points.{point-timely}
 use Rattle.hy_theorems.proofs.Values.{IsCollisionFree}
 use Rattle.hy_theorems.proofs.Told.{ArePutBytes}
-use Rattle.hy_theorems.proofs.Linear.{IsMarkOf, IsWriteMark, mark-is, begun-are, IsAmongBegun, begun-in, picked, write-done, real-time, reads-register}
+use Rattle.hy_theorems.proofs.Beginnings.{begun-are, IsAmongBegun, begun-in}
+use Rattle.hy_theorems.proofs.Marks.{IsMarkOf, IsWriteMark, mark-is, write-done}
+use Rattle.hy_theorems.proofs.Linear.{picked, real-time, reads-register}
 use Rattle.hy_theorems.proofs.Placed.{orders-same}
 use Rattle.hy_theorems.proofs.Replies.{is_read_reply, write-replies, reply-fits, phase-fits}
 use Rattle.hy_theorems.proofs.Listing.{IsIn, in-contains, in-map, in-reverse, all-reverse, all-over, reverse-more, numbered-more, found-numbered, listed-all, in-picked, in-sorted, IsOther, AreOther, other-sorted, other-distinct}

@@ -35,7 +35,9 @@ use Rattle.hy_theorems.proofs.RealTime.{return-reply, stamp_of_reply, answer-sta
 use Rattle.hy_theorems.proofs.Replies.{done-heard}
 use Rattle.hy_theorems.proofs.Ordering.{Before, IsBehind, behind-before, parts-before, all-sorted, Differs}
 use Rattle.hy_theorems.proofs.Points.{answered-version}
-use Rattle.hy_theorems.proofs.Linear.{behind-lt, behind-le, IsMarkOf, IsWriteMark, IsReadMark, mark-is, mark-writing, marks-differ, begun-are, AreOthers, picked, all-pairs, as-read}
+use Rattle.hy_theorems.proofs.Beginnings.{AreOthers, begun-are}
+use Rattle.hy_theorems.proofs.Marks.{behind-lt, behind-le, as-read, IsMarkOf, IsWriteMark, IsReadMark, mark-is, mark-writing, marks-differ}
+use Rattle.hy_theorems.proofs.Linear.{picked, all-pairs}
 use Rattle.hy_theorems.proofs.TopAt.{top_at, at-rises, asked-first}
 use Rattle.hy_theorems.proofs.Overwritten.{IsWrittenAt, written-at, applied-asked, first-true}
 use Rattle.hy_theorems.proofs.ReadPoints.{IsReadAt, version-at, reply-version}

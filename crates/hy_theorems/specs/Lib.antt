@@ -3,3 +3,4 @@ pub mod Retrieval
 pub mod Starving
 pub mod Deleting
 pub mod Refreshing
+pub mod Rows
