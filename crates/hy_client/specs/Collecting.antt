@@ -3,7 +3,7 @@ use Rattle.std.specs.Prelude.{◌≡◌, ℕ, ◌-◌, ◌<◌, ◌≤◌, Bool,
 use Rattle.std.specs.List.{list_all}
 use Rattle.hy_base.specs.declared.failure.NoMemory.{NoMemory}
 use Rattle.hy_record.specs.Stamp.{Timestamp}
-use Rattle.hy_record.specs.Shape.{IsShape, cloud_count}
+use Rattle.hy_base.specs.Shape.{IsShape, cloud_count}
 use Rattle.hy_record.specs.declared.action.Phase.TheVariants as phases
 use Rattle.hy_record.specs.declared.cloud.CloudReply.{CloudReply}
 use Rattle.hy_record.specs.declared.turn.Cue.{Cue}

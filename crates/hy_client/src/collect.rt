@@ -1,7 +1,7 @@
 //! The machine of a collection.
 
 ghost use Rattle.std.specs.Prelude.{◌≡◌, ◌∷◌, ◌<◌, [], ℕ, List, IfOk, OnOk, OnErr, Ok, true};
-ghost use Rattle.hy_record.specs.Shape.{IsShape};
+ghost use Rattle.hy_base.specs.Shape.{IsShape};
 ghost use Rattle.hy_record.specs.Stamp.{Timestamp};
 ghost use Rattle.hy_record.specs.declared.message.MetaSay.TheVariants as says;
 ghost use Rattle.hy_record.specs.declared.turn.Cue.{Cue};
