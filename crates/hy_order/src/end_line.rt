@@ -46,12 +46,7 @@ impl LineKind for EndLine {
         true
     }
 
-    fn read(
-        &mut self,
-        _alloc: Global,
-        keyword: &[u8],
-        words: &mut Words,
-    ) -> Result<(), LineError> {
+    fn read(&mut self, _alloc: Global, keyword: &[u8], words: &mut Words) -> Result<(), LineError> {
         read_keyword(keyword, b"end")?;
         read_counts(words, self.operations, self.orders)?;
         Ok(())

@@ -21,7 +21,9 @@ use crate::report::LAST_STEP;
 use crate::slots::{read_any_stamp, read_number_after};
 use hy_base::{Cause, MAX_COUNT, MAX_TEXT_VALUE};
 use hy_record::{Action, Phase, Reply};
-use hy_text::{LineError, LineKind, Words, read_action, read_number, read_phase, read_u32, read_value};
+use hy_text::{
+    LineError, LineKind, Words, read_action, read_number, read_phase, read_u32, read_value,
+};
 use std::alloc::Global;
 use std::marker::Model;
 

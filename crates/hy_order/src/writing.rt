@@ -19,7 +19,8 @@ use crate::report::Report;
 use hy_base::{Blob, NoMemory};
 use hy_record::Reply;
 use hy_text::{
-    Named, push_action, push_clouds, push_number_word, push_numbers, push_stamp, push_value_word, push_word,
+    Named, push_action, push_clouds, push_number_word, push_numbers, push_stamp, push_value_word,
+    push_word,
 };
 use std::alloc::Global;
 

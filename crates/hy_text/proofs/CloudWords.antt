@@ -87,8 +87,7 @@ pub clouds_take : (last : ℕ) (word : List ℕ) (set : ℕ) → last < 16 → c
 clouds_take last word set few e =
     let list = bind_ok (cloud_list_of last word) (λ clouds. Ok (set_of_clouds clouds)) set e in
     let parts = cloud_list_takes last word list.0 list.1 in
-    let is : set_of_clouds list.0 ≡ set = ok_is (set_of_clouds list.0) set list.2 in
-    (
+    let is : set_of_clouds list.0 ≡ set = ok_is (set_of_clouds list.0) set list.2 in (
       parts.0 ∙ ap cloud_word (sym (clouds_of-set last list.0 few parts.1) ∙ ap clouds_of is),
       subst (λ (n : ℕ). n < 2 ^ (last + 1)) is (set_of_clouds-lt last list.0 parts.1),
     )

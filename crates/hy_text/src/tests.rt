@@ -280,7 +280,10 @@ fn lines_are_taken_by_their_first_word(rt: HostRuntime) {
     let mut cursor = Cursor::of(b"op 1\nend");
     assert_eq!(rt; cursor.next_keyword(), Some(b"op".as_slice()));
     let mut first = cursor.take().expect(&rt, "a line");
-    assert_eq!(rt; (first.number, first.keyword, first.ended), (1, b"op".as_slice(), true));
+    assert_eq!(rt;
+        (first.number, first.keyword, first.ended),
+        (1, b"op".as_slice(), true)
+    );
     assert_eq!(rt; first.words.next_word(), b"1".as_slice());
     let extra = TextError::Fault(TextFault {
         line: 2,
@@ -289,7 +292,10 @@ fn lines_are_taken_by_their_first_word(rt: HostRuntime) {
     assert_eq!(rt; cursor.fault(Cause::Extra), extra);
     assert_eq!(rt; cursor.end(), Err(extra));
     let last = cursor.take().expect(&rt, "a line without end");
-    assert_eq!(rt; (last.number, last.keyword, last.ended), (2, b"end".as_slice(), false));
+    assert_eq!(rt;
+        (last.number, last.keyword, last.ended),
+        (2, b"end".as_slice(), false)
+    );
     assert_eq!(rt; last.words.end(), Ok(()));
     assert_eq!(rt; cursor.next_keyword(), None);
     assert_eq!(rt; cursor.end(), Ok(()));
