@@ -50,17 +50,25 @@ told_none = cues.Meta (says.Has 2 1 a None)
 abbrev pub stored : ℕ → Cue
 stored cloud = said 2 cloud (stamp 1 2) (Stored true)
 
+-- the fragment of this cloud
+abbrev pub fragment_to : ℕ → Out
+fragment_to cloud = wished 2 cloud (stamp 1 2) (acts.Put (fragment_of (1 ∷ []) 1 cloud))
+
 -- a put asks for the record, sends its fragments to a quorum under the next timestamp of its client, and then one update, whatever is repeated
 pub record PutRow : Type 0 where
   pub start : write_sends put [] ≡ outs.Meta (asks.Read 2 1 a) ∷ []
-  pub fragments : write_sends put (told_none ∷ []) ≡ wished 2 0 (stamp 1 2) (acts.Put (fragment_of (1 ∷ []) 1 0)) ∷ wished 2 1 (stamp 1 2) (acts.Put (fragment_of (1 ∷ []) 1 1)) ∷ []
+  pub fragments : write_sends put (told_none ∷ []) ≡ fragment_to 0 ∷ fragment_to 1 ∷ []
   pub one_ack : write_sends put (stored 0 ∷ told_none ∷ []) ≡ []
   pub repeated_ack : write_sends put (stored 0 ∷ stored 0 ∷ told_none ∷ []) ≡ []
-  pub timeout : write_sends put (cues.Tick ∷ stored 0 ∷ told_none ∷ []) ≡ wished 2 1 (stamp 1 2) (acts.Put (fragment_of (1 ∷ []) 1 1)) ∷ wished 2 2 (stamp 1 2) (acts.Put (fragment_of (1 ∷ []) 1 2)) ∷ []
-  pub quorum : write_sends put (stored 2 ∷ stored 0 ∷ told_none ∷ []) ≡ outs.Meta (asks.Update 2 1 a (value_record (stamp 1 2) (1 ∷ []) 1 1 (0 ∷ 2 ∷ []))) ∷ []
+  pub timeout : write_sends put (cues.Tick ∷ stored 0 ∷ told_none ∷ []) ≡ fragment_to 1 ∷ fragment_to 2 ∷ []
+  pub quorum :
+      write_sends put (stored 2 ∷ stored 0 ∷ told_none ∷ [])
+      ≡ outs.Meta (asks.Update 2 1 a (value_record (stamp 1 2) (1 ∷ []) 1 1 (0 ∷ 2 ∷ []))) ∷ []
   pub late_ack : write_sends put (stored 1 ∷ stored 2 ∷ stored 0 ∷ told_none ∷ []) ≡ []
   pub unanswered : write_reply put (stored 1 ∷ stored 2 ∷ stored 0 ∷ told_none ∷ []) ≡ None
-  pub reply : write_reply put (cues.Meta (says.Applied 2 1 a (stamp 1 2)) ∷ stored 2 ∷ stored 0 ∷ told_none ∷ []) ≡ Some (told.Done (stamp 1 2))
+  pub reply :
+      write_reply put (cues.Meta (says.Applied 2 1 a (stamp 1 2)) ∷ stored 2 ∷ stored 0 ∷ told_none ∷ [])
+      ≡ Some (told.Done (stamp 1 2))
   pub unasked : write_reply put (cues.Meta (says.Applied 2 1 a (stamp 1 2)) ∷ stored 0 ∷ told_none ∷ []) ≡ None
 
 -- client 1 gets the value of a record that lists clouds 0 and 1
@@ -87,7 +95,9 @@ pub record GetRow : Type 0 where
   pub first_holder : read_sends get (told_record ∷ []) ≡ wished 1 0 (stamp 1 2) acts.Get ∷ []
   pub next_holder : read_sends get (missing 0 ∷ told_record ∷ []) ≡ wished 1 1 (stamp 1 2) acts.Get ∷ []
   pub repeated_miss : read_sends get (missing 0 ∷ missing 0 ∷ told_record ∷ []) ≡ []
-  pub all_missed : read_sends get (missing 1 ∷ missing 0 ∷ told_record ∷ []) ≡ outs.Meta (asks.Watch 1 1 a (stamp 1 2)) ∷ wished 1 0 (stamp 1 2) acts.Get ∷ wished 1 1 (stamp 1 2) acts.Get ∷ []
+  pub all_missed :
+      read_sends get (missing 1 ∷ missing 0 ∷ told_record ∷ [])
+      ≡ outs.Meta (asks.Watch 1 1 a (stamp 1 2)) ∷ wished 1 0 (stamp 1 2) acts.Get ∷ wished 1 1 (stamp 1 2) acts.Get ∷ []
   pub news : read_sends get (fired ∷ missing 1 ∷ missing 0 ∷ told_record ∷ []) ≡ outs.Meta (asks.Read 1 1 a) ∷ []
   pub repeated_news : read_sends get (fired ∷ fired ∷ missing 1 ∷ missing 0 ∷ told_record ∷ []) ≡ []
   pub refreshed_once : refresh_count (fired ∷ fired ∷ missing 1 ∷ missing 0 ∷ told_record ∷ []) ≡ 1
@@ -104,10 +114,14 @@ gone cloud = said 1 cloud (stamp 1 2) Gone
 
 -- a collection deletes what is superseded from all clouds, and has it forgotten when all but f have acknowledged
 pub record CollectRow : Type 0 where
-  pub deletes : collect_sends collection (told_olds ∷ []) ≡ wished 1 0 (stamp 1 2) acts.Delete ∷ wished 1 1 (stamp 1 2) acts.Delete ∷ wished 1 2 (stamp 1 2) acts.Delete ∷ []
+  pub deletes :
+      collect_sends collection (told_olds ∷ [])
+      ≡ wished 1 0 (stamp 1 2) acts.Delete ∷ wished 1 1 (stamp 1 2) acts.Delete ∷ wished 1 2 (stamp 1 2) acts.Delete ∷ []
   pub one_gone : collect_sends collection (gone 0 ∷ told_olds ∷ []) ≡ []
   pub forgets : collect_sends collection (gone 2 ∷ gone 0 ∷ told_olds ∷ []) ≡ outs.Meta (asks.Forget 1 1 a (stamp 1 2 ∷ [])) ∷ []
-  pub reply : collect_reply collection (cues.Meta (says.Forgot 1 1 a) ∷ gone 2 ∷ gone 0 ∷ told_olds ∷ []) ≡ Some (told.Collected 1)
+  pub reply :
+      collect_reply collection (cues.Meta (says.Forgot 1 1 a) ∷ gone 2 ∷ gone 0 ∷ told_olds ∷ [])
+      ≡ Some (told.Collected 1)
   pub nothing : collect_reply collection (cues.Meta (says.OldList 1 1 a []) ∷ []) ≡ Some (told.Collected 0)
 
 -- a request about the timestamp of this number

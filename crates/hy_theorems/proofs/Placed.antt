@@ -97,7 +97,6 @@ same-point a b first second = by_tests a.is_just_before b.is_just_before refl re
     by_tests true false x_is y_is e f = absurd (grind (arith, nat_tests))
     by_tests false true x_is y_is e f = absurd (grind (arith, nat_tests))
 
-
 module _ (t : List Deed) (key : List ℕ) where
   -- a read does not stand at the point of a write of its timestamp
   read-apart : (a b : Mark) → (a.reads ≡ 1) × (a.point.is_just_before ≡ false) × IsReadAt t key a.stamp a.point.step → (b.reads ≡ 0) × IsWrittenAt t key b.stamp b.point → a.point.step ≡ b.point.step → a.stamp ≡ b.stamp → ⊥
@@ -218,11 +217,12 @@ module _ (p : Params) (t : List Deed) (trace : IsTrace p t) (key : List ℕ) whe
       by_first : (o : Option Mark) → mark_of p t key b ≡ o → AllAgree (filter_map (mark_of p t key) ops) → AllAgree (cons_option o (filter_map (mark_of p t key) ops))
       by_first None is rest = rest
       by_first (Some m) is rest =
-          let here = mark-is p t trace key b m began.0 is in
-          (picked (mark_of p t key) (λ a. (start_of a.client a.op t ≡ Some a.start) × ((b.client ≡ a.client) × (b.op ≡ a.op) → ⊥)) (Agrees m) ops
-              (λ a n known other. (let there = mark-is p t trace key a n known.0 other in same-order t key m n (placed b m here) (placed a n there) (marks-differ p t trace key b a m n here there known.1)))
-              (all-pairs (λ a. start_of a.client a.op t ≡ Some a.start) (λ a. (b.client ≡ a.client) × (b.op ≡ a.op) → ⊥) ops began.1 others.0),
-          rest)
+          let here = mark-is p t trace key b m began.0 is in (
+            picked (mark_of p t key) (λ a. (start_of a.client a.op t ≡ Some a.start) × ((b.client ≡ a.client) × (b.op ≡ a.op) → ⊥)) (Agrees m) ops
+                (λ a n known other. (let there = mark-is p t trace key a n known.0 other in same-order t key m n (placed b m here) (placed a n there) (marks-differ p t trace key b a m n here there known.1)))
+                (all-pairs (λ a. start_of a.client a.op t ≡ Some a.start) (λ a. (b.client ≡ a.client) × (b.op ≡ a.op) → ⊥) ops began.1 others.0),
+            rest,
+          )
 
   -- the order by points is the order by timestamps
   pub orders-same : sorted_marks is_later (marks_of p t key) ≡ sorted_marks is_behind (marks_of p t key)

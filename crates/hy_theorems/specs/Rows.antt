@@ -26,7 +26,10 @@ trace p schedule = trace_of p (reverse schedule)
 
 -- a put, a delete and a get of a key, one after the other
 abbrev pub put_delete_get : List Step
-put_delete_get = put_begins ++ gives (1 ∷ 2 ∷ 3 ∷ 4 ∷ 5 ∷ 6 ∷ []) ++ steps.Invoke 1 (asked.Delete a) ∷ gives (7 ∷ 8 ∷ 9 ∷ 10 ∷ []) ++ steps.Invoke 1 (asked.Get a) ∷ gives (11 ∷ 12 ∷ [])
+put_delete_get =
+    put_begins ++ gives (1 ∷ 2 ∷ 3 ∷ 4 ∷ 5 ∷ 6 ∷ [])
+    ++ steps.Invoke 1 (asked.Delete a) ∷ gives (7 ∷ 8 ∷ 9 ∷ 10 ∷ [])
+    ++ steps.Invoke 1 (asked.Get a) ∷ gives (11 ∷ 12 ∷ [])
 
 -- a put to which a Byzantine cloud gave a false acknowledgement
 abbrev pub put_upon_a_lie : List Step
@@ -38,7 +41,11 @@ put_done = steps.Join ∷ steps.Join ∷ steps.Invoke 1 (asked.Put a (1 ∷ []))
 
 -- client 2 reads its record, client 1 puts another value, and collects: the first value is deleted
 abbrev pub collected : List Step
-collected = put_done ++ steps.Invoke 2 (asked.Get a) ∷ gives (7 ∷ 8 ∷ []) ++ steps.Invoke 1 (asked.Put a (2 ∷ [])) ∷ gives (10 ∷ 11 ∷ 12 ∷ 13 ∷ 14 ∷ 15 ∷ []) ++ steps.Invoke 1 (asked.Collect a) ∷ gives (16 ∷ 17 ∷ 18 ∷ 19 ∷ 20 ∷ 21 ∷ [])
+collected =
+    put_done
+    ++ steps.Invoke 2 (asked.Get a) ∷ gives (7 ∷ 8 ∷ [])
+    ++ steps.Invoke 1 (asked.Put a (2 ∷ [])) ∷ gives (10 ∷ 11 ∷ 12 ∷ 13 ∷ 14 ∷ 15 ∷ [])
+    ++ steps.Invoke 1 (asked.Collect a) ∷ gives (16 ∷ 17 ∷ 18 ∷ 19 ∷ 20 ∷ 21 ∷ [])
 
 -- and client 2 is told that the cloud holds nothing
 abbrev pub starved : List Step
