@@ -3,6 +3,7 @@ pub mod Bytes
 pub mod Elements
 pub mod FragmentLaws
 pub mod Interpolation
+pub mod NotRefused
 pub mod PartLemmas
 pub mod Ranges
 pub mod Refusals

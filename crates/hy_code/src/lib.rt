@@ -11,7 +11,10 @@ mod row;
 
 pub use fault::RebuildFault;
 pub use fragments::{Fragments, split};
-pub use laws::{any_parts_rebuild, one_polynomial};
+pub use laws::{
+    any_parts_rebuild, fragments_are_not_refused, fragments_have_the_fragment_size,
+    one_part_is_the_value, one_polynomial,
+};
 pub use pick::Pick;
 pub use rebuilding::rebuild;
 

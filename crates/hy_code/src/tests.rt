@@ -147,4 +147,7 @@ fn the_largest_value(rt: HostRuntime) -> Result<(), Fail> {
 fn laws(_rt: HostRuntime) {
     one_polynomial();
     any_parts_rebuild();
+    fragments_have_the_fragment_size();
+    one_part_is_the_value();
+    fragments_are_not_refused();
 }

@@ -6,7 +6,7 @@ use crate::stamp::Stamp;
 use crate::stamps::Stamps;
 
 /// What a client asks the metadata service, for its operation of this number on this key.
-#[derive(Debug, Drop)]
+#[derive(Debug, Drop, PartialEq, Eq)]
 pub enum MetaAsk {
     /// Answer the record of the key.
     Read {
@@ -44,7 +44,7 @@ pub enum MetaAsk {
 }
 
 /// What the metadata service answers, to the client and the operation that asked.
-#[derive(Debug, Drop)]
+#[derive(Debug, Drop, PartialEq, Eq)]
 pub enum MetaSay {
     /// The key has this record, or none.
     Has {

@@ -1,16 +1,15 @@
 //! Records: what the metadata service keeps of a key.
 
 ghost use Rattle.std.specs.Prelude.{◌≡◌, ◌≢◌, ◌<◌, ◌≤◌, ◌↔◌, IsTrue, IsSome, IfOk, All, length};
+ghost use Rattle.hy_base.specs.Shape.{IsShape, cloud_count, quorum_size, fragment_size};
 ghost use Rattle.hy_record.specs.Stamp.{IsWritten};
-ghost use Rattle.hy_record.specs.Clouds.{clouds_of};
-ghost use Rattle.hy_record.specs.Shape.{IsShape, cloud_count, quorum_size, fragment_size};
 ghost use Rattle.hy_record.specs.Hash.{IsHash};
 ghost use Rattle.hy_record.specs.Record.{RecordValue, IsRecord, tombstone, kind_of_parts, is_cloud_list, hash_count, hash_of, record_of_value, is_tombstone, is_valid_fragment, IsValidFragment};
 
 use crate::hash::{Hash, sha};
 use crate::kind::Kind;
 use crate::stamp::Stamp;
-use hy_base::{MAX_VALUE, NoMemory};
+use hy_base::{MAX_VALUE, NoMemory, cloud_count, fragment_size};
 use std::alloc::Global;
 use std::marker::Model;
 
@@ -19,7 +18,6 @@ mod reading;
 mod spelling;
 
 pub use fault::RecordFault;
-pub use reading::{record_spellings_are_apart, records_are_read_back};
 
 /// When the value of a key was written, and how it lies in the clouds; or that it was deleted.
 #[derive(Debug, Drop)]
@@ -109,6 +107,15 @@ impl Record {
         })
     }
 
+    /// This record, of which the caller then knows that it meets the rules of a record.
+    pub fn known(&self) -> &Record
+        ensures same { result.now ≡ self.now }
+        ensures ruled { IsRecord result.now }
+    {
+        let _stamp = self.stamp;
+        self
+    }
+
     /// The timestamp of the write.
     pub fn stamp(&self) -> Stamp
         ensures { result ≡ self.now.stamp }
@@ -158,8 +165,7 @@ impl Record {
         if self.k == 0 {
             return 0;
         }
-        let parts = u32::from(self.k);
-        (self.size + (parts - 1)) / parts
+        fragment_size(self.size, self.k)
     }
 
     /// The hash of what this cloud holds.
@@ -167,7 +173,7 @@ impl Record {
         ensures value { result ≡ hash_of self.now i }
         ensures found { IsSome result ↔ (self.now.kind ≢ Kind.Tomb) × (i < cloud_count self.now.f self.now.k) }
     {
-        if i >= 2 * self.f + self.k {
+        if i >= cloud_count(self.f, self.k) {
             return None;
         }
         match self.kind {
@@ -206,6 +212,42 @@ impl Record {
     }
 }
 
+impl PartialEq for Record {
+    ghost use Rattle.std.specs.Prelude.{◌==◌};
+    ghost use Rattle.std.specs.Ordering.{on, eq_of_both};
+    ghost use Rattle.hy_record.specs.Spelling.{kind_byte};
+    ghost use Rattle.std.specs.Cmp.Lexicographic.{pointwise};
+    ghost use Rattle.std.specs.Cmp.Rules.{comparing};
+    ghost use Rattle.std.proofs.Common.{rules};
+
+    ghost eq = { eq_of_both (eq_of_both (on (λ r. r.stamp.sn) ◌==◌) (on (λ r. r.stamp.cid) ◌==◌))
+        (eq_of_both (on (λ r. kind_byte r.kind) ◌==◌)
+        (eq_of_both (on (λ r. r.size) ◌==◌)
+        (eq_of_both (on (λ r. r.f) ◌==◌)
+        (eq_of_both (on (λ r. r.k) ◌==◌)
+        (eq_of_both (on (λ r. r.clouds) ◌==◌)
+        (on (λ r. r.hashes) (pointwise (pointwise ◌==◌)))))))) };
+
+    ghost laws = { Prim.search (comparing, rules) depth 14 };
+
+    fn eq(&self, other: &Record) -> bool {
+        self.stamp == other.stamp
+            && self.kind == other.kind
+            && self.size == other.size
+            && self.f == other.f
+            && self.k == other.k
+            && self.clouds == other.clouds
+            && self.hashes == other.hashes
+    }
+}
+
+impl Eq for Record {
+    ghost use Rattle.std.specs.Cmp.Rules.{comparing};
+    ghost use Rattle.std.proofs.Common.{rules};
+
+    ghost laws = { Prim.search (comparing, rules) depth 14 };
+}
+
 /// A copy of the hashes.
 fn copied(alloc: Global, hashes: &[Hash]) -> Result<Vec<Hash>, NoMemory>
     ensures same { IfOk result (λ copy. copy.items ≡ hashes.now) }
@@ -217,9 +259,3 @@ fn copied(alloc: Global, hashes: &[Hash]) -> Result<Vec<Hash>, NoMemory>
     }
     Ok(copy)
 }
-
-/// The law that a record's clouds are a quorum of those of its store.
-pub fn record_lists_a_quorum()
-    ensures count { (r : RecordValue) → IsRecord r → length (clouds_of r.clouds) ≡ quorum_size r.f r.k }
-    ensures clouds { (r : RecordValue) → IsRecord r → All (λ cloud. cloud < cloud_count r.f r.k) (clouds_of r.clouds) }
-{}

@@ -1,6 +1,10 @@
 //! Lists of timestamps.
 
-ghost use Rattle.std.specs.Prelude.{◌≡◌, ◌≤◌, IsTrue, length};
+ghost use Rattle.std.specs.Prelude.{◌≡◌, ◌==◌, ◌≤◌, IsTrue, length};
+ghost use Rattle.std.proofs.Common.{rules};
+ghost use Rattle.std.specs.Cmp.Rules.{comparing};
+ghost use Rattle.std.specs.Cmp.Lexicographic.{pointwise};
+ghost use Rattle.std.specs.Ordering.{on, eq_of_both};
 ghost use Rattle.hy_record.specs.Stamps.{is_rising};
 
 use crate::stamp::Stamp;
@@ -54,4 +58,18 @@ impl Stamps {
     {
         self.items
     }
+}
+
+impl PartialEq for Stamps {
+    ghost eq = { pointwise (eq_of_both (on (λ s. s.sn) ◌==◌) (on (λ s. s.cid) ◌==◌)) };
+
+    ghost laws = { Prim.search (comparing, rules) };
+
+    fn eq(&self, other: &Stamps) -> bool {
+        self.items() == other.items()
+    }
+}
+
+impl Eq for Stamps {
+    ghost laws = { Prim.search (comparing, rules) };
 }

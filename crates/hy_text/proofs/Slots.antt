@@ -6,19 +6,7 @@ use Rattle.hy_base.specs.declared.fault.Cause.{Cause}
 use Rattle.hy_base.specs.declared.fault.Cause.TheVariants.{BadWord}
 use Rattle.hy_text.specs.Gives.{at_line}
 use Rattle.hy_text.specs.Line.{first_word, later_words}
-use Rattle.hy_text.specs.Slot.{◌>>=◌, keyword, end_of, end_of_line}
-
--- the value of the first reader, where both answered one
-pub bind_ok : {A B E : Type 0} (read : Result A E) (next : A → Result B E) (y : B) → (read >>= next) ≡ Ok y → (x : A) × (read ≡ Ok x) × (next x ≡ Ok y)
-bind_ok (Ok x) next y e = (x, refl, e)
-bind_ok (Err fault) next y e = absurd cc
-
-abbrev answer : {A E : Type 0} → A → Result A E
-answer x = Ok x
-
--- two answers that are the same have the same value
-pub ok_is : {A E : Type 0} (x y : A) → answer {E = E} x ≡ answer y → x ≡ y
-ok_is x y e = cc
+use Rattle.hy_text.specs.Slot.{keyword, end_of, end_of_line}
 
 abbrev due_or_bad : Bool → Result (Unit {0}) Cause
 due_or_bad t = cond t (Ok tt) (Err BadWord)
@@ -40,7 +28,7 @@ pub end_takes : (words : List (List ℕ)) (u : Unit {0}) → end_of words ≡ Ok
 end_takes [] u e = refl
 end_takes (word ∷ words) u e = absurd cc
 
--- a word that is not empty stands in front of those behind it
+-- a word that is not empty stands in front of those after it
 pub words_from_first : (words : List (List ℕ)) (word : List ℕ) → first_word words ≡ word → 0 < length word → words ≡ word ∷ later_words words
 words_from_first [] word e some = absurd (omega (arith, ap length e))
 words_from_first (first ∷ words) word e some = ap (λ (w : List ℕ). w ∷ words) e
@@ -50,9 +38,9 @@ pub chosen : {A E : Type 0} (b : Bool) (here other : Result A E) (x : A) → con
 chosen true here other x e = inl (refl, e)
 chosen false here other x e = inr e
 
--- the keyword stands in front of the words behind it
-pub behind : (words : List (List ℕ)) (keyword : List ℕ) → bytes_eq (first_word words) keyword ≡ true → 0 < length keyword → words ≡ keyword ∷ later_words words
-behind words keyword e some = words_from_first words keyword ((bytes_eq-Decides (first_word words) keyword).0 e) some
+-- the keyword stands in front of the words after it
+pub keyword_first : (words : List (List ℕ)) (keyword : List ℕ) → bytes_eq (first_word words) keyword ≡ true → 0 < length keyword → words ≡ keyword ∷ later_words words
+keyword_first words keyword e some = words_from_first words keyword ((bytes_eq-Decides (first_word words) keyword).0 e) some
 
 -- a line that is not at fault has its end
 pub ended_ok : (ended : Bool) (u : Unit {0}) → end_of_line ended ≡ Ok u → ended ≡ true

@@ -9,7 +9,7 @@ use Rattle.hy_record.specs.declared.action.Action.{Action}
 use Rattle.hy_record.specs.declared.action.Action.TheVariants as asked
 use Rattle.hy_record.specs.declared.action.Reply.{Reply}
 use Rattle.hy_record.specs.declared.action.Reply.TheVariants as told
-use Rattle.hy_record.specs.Shape.{IsShape}
+use Rattle.hy_base.specs.Shape.{IsShape}
 use Rattle.hy_record.specs.Key.{key_eq}
 use Rattle.hy_record.proofs.Order.{key_eq-same}
 use Rattle.hy_meta.proofs.Rising.{both}

@@ -8,7 +8,7 @@ use Rattle.std.proofs.lemmas.Slice.Eq.{bytes_eq-Decides}
 use Rattle.sha2.specs.Sha256.{sha256}
 use Rattle.hy_record.specs.declared.kind.Kind.TheVariants.{Tomb}
 use Rattle.hy_record.specs.Stamp.{Timestamp}
-use Rattle.hy_record.specs.Shape.{IsShape, cloud_count, fragment_size}
+use Rattle.hy_base.specs.Shape.{IsShape, cloud_count, fragment_size}
 use Rattle.hy_record.specs.Clouds.{clouds_of}
 use Rattle.hy_record.specs.Record.{RecordValue, hash_of}
 use Rattle.hy_meta.specs.Service.{record_after}

@@ -11,7 +11,7 @@ use Rattle.hy_record.specs.declared.action.Action.TheVariants as asked
 use Rattle.hy_record.specs.declared.action.Reply.{Reply}
 use Rattle.hy_record.specs.declared.action.Reply.TheVariants as told
 use Rattle.hy_record.specs.Stamp.{Timestamp, stamp_lt}
-use Rattle.hy_record.specs.Shape.{IsShape}
+use Rattle.hy_base.specs.Shape.{IsShape}
 use Rattle.hy_record.specs.Key.{key_eq}
 use Rattle.hy_record.proofs.Order.{key_eq-true, key_eq-same, stamp_le-lt}
 use Rattle.hy_meta.proofs.Rising.{cases_bool, both}

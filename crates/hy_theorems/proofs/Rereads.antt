@@ -9,7 +9,7 @@ use Rattle.hy_record.specs.declared.message.MetaSay.{MetaSay}
 use Rattle.hy_record.specs.declared.message.MetaSay.TheVariants as says
 use Rattle.hy_record.specs.declared.action.Reply.{Reply}
 use Rattle.hy_record.specs.Stamp.{Timestamp, stamp_lt}
-use Rattle.hy_record.specs.Shape.{cloud_count}
+use Rattle.hy_base.specs.Shape.{cloud_count}
 use Rattle.hy_record.specs.Record.{RecordValue, is_tombstone}
 use Rattle.hy_record.specs.Clouds.{clouds_of}
 use Rattle.hy_record.proofs.Order.{stamp_lt-same}

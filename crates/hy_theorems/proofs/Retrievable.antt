@@ -9,7 +9,7 @@ use Rattle.hy_record.specs.declared.message.MetaAsk.TheVariants as asks
 use Rattle.hy_record.specs.declared.action.Action.TheVariants as asked
 use Rattle.hy_record.specs.Stamp.{Timestamp, stamp_eq, stamp_lt}
 use Rattle.hy_record.specs.Key.{key_eq}
-use Rattle.hy_record.specs.Shape.{IsShape, cloud_count, quorum_size}
+use Rattle.hy_base.specs.Shape.{IsShape, cloud_count, quorum_size}
 use Rattle.hy_record.specs.Clouds.{clouds_of}
 use Rattle.hy_record.specs.Clouds.{set_of}
 use Rattle.hy_theorems.proofs.Masks.{clouds-of-set, range-low}

@@ -10,7 +10,7 @@ use Rattle.hy_record.specs.declared.action.Action.TheVariants as asked
 use Rattle.hy_record.specs.declared.action.Reply.{Reply}
 use Rattle.hy_record.specs.declared.action.Reply.TheVariants as told
 use Rattle.hy_record.specs.Stamp.{Timestamp, stamp_eq, stamp_lt}
-use Rattle.hy_record.specs.Shape.{IsShape, cloud_count}
+use Rattle.hy_base.specs.Shape.{IsShape, cloud_count}
 use Rattle.hy_record.specs.Clouds.{clouds_of}
 use Rattle.hy_record.specs.Record.{RecordValue}
 use Rattle.hy_record.proofs.Order.{stamp_eq-true, stamp_eq-same, key_eq-true}

@@ -9,7 +9,7 @@ use Rattle.hy_record.specs.declared.action.Action.TheVariants as asked
 use Rattle.hy_record.specs.declared.action.Reply.{Reply}
 use Rattle.hy_record.specs.declared.action.Reply.TheVariants as told
 use Rattle.hy_record.specs.Stamp.{Timestamp}
-use Rattle.hy_record.specs.Shape.{IsShape}
+use Rattle.hy_base.specs.Shape.{IsShape}
 use Rattle.hy_record.specs.Record.{RecordValue}
 use Rattle.hy_meta.proofs.Rising.{cases_bool}
 use Rattle.hy_gf.specs.Gf.{IsElement}

@@ -10,7 +10,7 @@ use Rattle.std.proofs.lemmas.Slice.Eq.{bytes_eq-Decides}
 use Rattle.sha2.specs.Sha256.{sha256}
 use Rattle.hy_record.specs.declared.action.Action.TheVariants as asked
 use Rattle.hy_record.specs.Stamp.{Timestamp, stamp_eq, stamp_lt}
-use Rattle.hy_record.specs.Shape.{IsShape, cloud_count, fragment_size}
+use Rattle.hy_base.specs.Shape.{IsShape, cloud_count, fragment_size}
 use Rattle.hy_record.specs.Record.{RecordValue, hash_of}
 use Rattle.hy_meta.specs.Service.{stamp_of_record}
 use Rattle.hy_meta.proofs.Rising.{cases_bool, both}

@@ -3,7 +3,7 @@ use Rattle.std.specs.Prelude.{◌≡◌, ℕ, ◌≤◌, ◌<◌, ◌⊎◌, tru
 use Rattle.std.specs.List.{AllByRecursion}
 use Rattle.hy_record.specs.declared.kind.Kind.TheVariants.{Tomb}
 use Rattle.hy_record.specs.Stamp.{Timestamp}
-use Rattle.hy_record.specs.Shape.{cloud_count, quorum_size}
+use Rattle.hy_base.specs.Shape.{cloud_count, quorum_size}
 use Rattle.hy_record.specs.Record.{RecordValue}
 use Rattle.hy_record.specs.Clouds.{clouds_of}
 use Rattle.hy_code.specs.Fragments.{fragment_of}

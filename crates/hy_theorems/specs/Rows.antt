@@ -1,7 +1,7 @@
 -- Worked schedules that meet the premises of the laws.
 use Rattle.std.specs.Prelude.{◌≡◌, ℕ, false, List, [], ◌∷◌, ◌++◌, Some, reverse}
 use Rattle.hy_record.specs.declared.action.Action.TheVariants as asked
-use Rattle.hy_record.specs.Shape.{IsShape}
+use Rattle.hy_base.specs.Shape.{IsShape}
 use Rattle.hy_record.specs.Record.{RecordValue, is_tombstone}
 use Rattle.hy_meta.specs.Service.{record_after}
 use Rattle.hy_protocol.specs.Write.{value_record}

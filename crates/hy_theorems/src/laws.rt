@@ -2,7 +2,7 @@
 
 ghost use Rattle.std.specs.Prelude.{◌≡◌, ◌≤◌, ◌+◌, ℕ, List, length, true, false, Some, None};
 ghost use Rattle.hy_record.specs.Stamp.{Timestamp, stamp_lt};
-ghost use Rattle.hy_record.specs.Shape.{IsShape};
+ghost use Rattle.hy_base.specs.Shape.{IsShape};
 ghost use Rattle.hy_record.specs.Record.{RecordValue, is_tombstone};
 ghost use Rattle.hy_record.specs.Clouds.{clouds_of};
 ghost use Rattle.hy_meta.specs.Service.{record_stamp, record_after};

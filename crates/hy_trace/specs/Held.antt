@@ -1,7 +1,7 @@
 -- The clouds from which the current version of a key can be retrieved.
 use Rattle.std.specs.Prelude.{ℕ, ◌≤◌, Bool, true, false, ◌&&◌, not, List, length, filter, Option, Some, None}
 use Rattle.std.specs.List.{range_with_len}
-use Rattle.hy_record.specs.Shape.{cloud_count}
+use Rattle.hy_base.specs.Shape.{cloud_count}
 use Rattle.hy_record.specs.Record.{RecordValue, is_tombstone, is_valid_fragment}
 use Rattle.hy_record.specs.Clouds.{clouds_of, set_of}
 use Rattle.hy_meta.specs.Service.{record_after}

@@ -1,20 +1,27 @@
 //! The program: the words of its command line, its standard input and output, and its exit status.
 #![tactic(auto)]
 
-use hy_base::{ReadSource, WriteSink};
+use hy_base::{NoMemory, ReadSource, WriteSink};
+use hy_top::Status;
 use std::process::ExitCode;
 use std::rt::Env;
 use std::{env, io};
 
 fn main(rt: HostRuntime) -> ExitCode {
-    let words = words_of(&rt).unwrap_or(Vec::new(rt.alloc()));
     let mut input = ReadSource::new(rt.stdin());
     let mut output = WriteSink::new(rt.stdout());
-    let status = hy_top::run(rt.alloc(), &words, &mut input, &mut output);
+    let status = match words_of(&rt) {
+        Ok(words) => hy_top::run(rt.alloc(), &words, &mut input, &mut output),
+        Err(NoMemory) => Status::NoMemory,
+    };
     ExitCode::from(status.code())
 }
 
-/// The words behind the program's name.
-fn words_of<R: Env + AllocGlobal>(rt: &R) -> io::Result<Vec<String>> {
-    Ok(env::args(rt)?.skip(1).collect(rt.alloc())?)
+/// The words after the program's name; none where one of them is no text.
+fn words_of<R: Env + AllocGlobal>(rt: &R) -> Result<Vec<String>, NoMemory> {
+    match env::args(rt) {
+        Ok(words) => Ok(words.skip(1).collect(rt.alloc())?),
+        Err(error) if error.kind() == io::ErrorKind::OutOfMemory => Err(NoMemory),
+        Err(_) => Ok(Vec::new(rt.alloc())),
+    }
 }

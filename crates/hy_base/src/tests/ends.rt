@@ -3,7 +3,7 @@ use std::io;
 use std::io::{Read, Write};
 use std::test::Fail;
 
-/// Gives two bytes, fails, gives two more and ends.
+/// Gives two bytes, fails twice, gives two more and ends.
 #[derive(Drop)]
 struct Stutter {
     calls: u8,
@@ -17,8 +17,8 @@ impl Read for Stutter {
         self.calls = self.calls.saturating_add(1);
         match self.calls {
             1 => buf[..2].copy_from_slice(b"ab"),
-            2 => return Err(io::Error::other("between")),
-            3 => buf[..2].copy_from_slice(b"cd"),
+            2 | 3 => return Err(io::Error::other("between")),
+            4 => buf[..2].copy_from_slice(b"cd"),
             _ => return Ok(0),
         }
         Ok(2)
@@ -54,8 +54,21 @@ fn a_reader_that_fails_goes_on(rt: HostRuntime) -> Result<(), Fail> {
 
     let mut source = ReadSource::new(Stutter { calls: 0 });
     assert!(rt; read_all(rt.alloc(), &mut source, 100) == Err(ReadAllFault::ReadFault));
+    assert!(rt; read_all(rt.alloc(), &mut source, 100) == Err(ReadAllFault::ReadFault));
     let rest = read_all(rt.alloc(), &mut source, 100)?;
     assert_eq!(rt; rest.bytes(), b"cd".as_slice());
+    Ok(())
+}
+
+#[test]
+fn a_long_piece_is_read_at_once(rt: HostRuntime) -> Result<(), Fail> {
+    let text = vec![in rt.alloc(); b'x'; 5_000]?;
+    let mut source = ReadSource::new(text.as_slice());
+    let mut read = vec![in rt.alloc(); 0u8; 6_000]?;
+    assert_eq!(rt; source.read(&mut read), Ok(5_000));
+    read.truncate(5_000);
+    assert!(rt; read.as_slice() == text.as_slice());
+    assert_eq!(rt; source.read(&mut [0]), Ok(0));
     Ok(())
 }
 

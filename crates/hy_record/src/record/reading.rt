@@ -14,7 +14,7 @@ use crate::hash::Hash;
 use crate::kind::Kind;
 use crate::stamp::Stamp;
 use byteorder::{BigEndian, ByteOrder};
-use hy_base::{MAX_F, MAX_K, MAX_VALUE};
+use hy_base::{MAX_F, MAX_K, MAX_VALUE, SN_END, cloud_count, quorum_size};
 use std::alloc::Global;
 
 impl Record {
@@ -31,19 +31,9 @@ impl Record {
     }
 }
 
-/// The law that no record's spelling begins another's.
-pub fn record_spellings_are_apart()
-    ensures { (a b x y : List ℕ) (r s : RecordValue) → SpellsRecord a r → SpellsRecord b s → a ++ x ≡ b ++ y → (r ≡ s) × (a ≡ b) }
-{}
-
-/// The law that what is written is read again.
-pub fn records_are_read_back()
-    ensures { (r : RecordValue) → IsRecord r → record_of (record_bytes r) ≡ Ok r }
-{}
-
 /// How a value lies in the clouds.
 #[derive(Clone, Copy)]
-pub(super) struct Layout {
+pub(crate) struct Layout {
     size: u32,
     f: u8,
     k: u8,
@@ -115,7 +105,7 @@ fn stamp_of(whole: usize, bytes: &[u8]) -> Result<(Stamp, &[u8]), RecordFault>
     ensures written { IfOk result (λ x. IsWritten x.0) }
 {
     let (sn, rest) = u32_at(whole, bytes)?;
-    if sn == 0 || sn == u32::MAX {
+    if sn == 0 || sn >= SN_END {
         return Err(RecordFault::BadShape(2));
     }
     let (cid, rest) = u32_at(whole, rest)?;
@@ -160,7 +150,8 @@ fn lists_quorum(f: u8, k: u8, clouds: u16) -> bool
     requires parts { k ≤ MAX_K }
     ensures { result ≡ is_cloud_list f k clouds }
 {
-    u32::from(clouds) < 1 << (2 * f + k) && clouds.count_ones() == u32::from(f + k)
+    u32::from(clouds) < 1 << cloud_count(f, k)
+        && clouds.count_ones() == u32::from(quorum_size(f, k))
 }
 
 /// The bytes of a hash, and those behind it.

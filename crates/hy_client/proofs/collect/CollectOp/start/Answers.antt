@@ -1,0 +1,10 @@
+use Rattle.std.proofs.Common.{◌∙◌, ap, sym, refl, arith, [], ◌∷◌}
+use Rattle.hy_record.specs.declared.turn.Out.{Out}
+use Rattle.hy_client.proofs.Collecting.{stands-start, first-sends}
+use Rattle.hy_client.proofs.collect.CollectOp.start.Goals as goal
+
+pub returns-clause-stands : goal.returns-clause-stands
+returns-clause-stands c = stands-start _ _ refl refl (omega arith) c.requires refl
+
+pub returns-clause-sends : goal.returns-clause-sends
+returns-clause-sends c = c.in_ok-sends.ensures.items ∙ ap (λ (out : Out). out ∷ []) c.olds.ensures ∙ sym (first-sends _)

@@ -1,0 +1,13 @@
+pub mod Picks
+pub mod Fragments
+pub mod Attempts
+pub mod Since
+pub mod Phases
+pub mod Standing
+pub mod Idle
+pub mod Beginnings
+pub mod Shown
+pub mod Outcomes
+pub mod Rebuilt
+pub mod Refreshes
+pub mod Counting

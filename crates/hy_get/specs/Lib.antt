@@ -1,0 +1,4 @@
+pub mod Requests
+pub mod Fetching
+pub mod Standing
+pub mod Laws

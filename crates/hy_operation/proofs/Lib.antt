@@ -1,0 +1,4 @@
+pub mod Filters
+pub mod Inputs
+pub mod Marking
+pub mod Sets
