@@ -29,3 +29,4 @@ pub mod ReadPoints
 pub mod Placed
 pub mod Rereads
 pub mod Premises
+pub mod Within

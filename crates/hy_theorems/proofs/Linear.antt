@@ -149,12 +149,12 @@ module _ (p : Params) (t : List Deed) (trace : IsTrace p t) (key : List ℕ) whe
   Is m = (b : Begun) × IsMarkOf p t trace key b m
 
   abbrev pub marks : List Mark
-  marks = filter_map (mark_of p t key) (begun_of t)
+  marks = marks_of p t key
 
   marks-are : AllByRecursion Is marks
   marks-are = picked (mark_of p t key) (λ b. start_of b.client b.op t ≡ Some b.start) Is (begun_of t) (λ b m began is. (b, mark-is p t trace key b m began is)) (begun-are p t trace).0
 
-  sorted-are : AllByRecursion Is (sorted_marks is_behind marks)
+  pub sorted-are : AllByRecursion Is (sorted_marks is_behind marks)
   sorted-are = all-sorted Is marks marks-are
 
   pub real-time : RespectsRealTime (map op_of (sorted_marks is_behind marks))

@@ -32,7 +32,7 @@ use Rattle.hy_trace.specs.Trace.{IsTrace}
 use Rattle.hy_trace.specs.Points.{was_applied}
 use Rattle.hy_theorems.specs.Writing.{IsWriting, write_action}
 use Rattle.hy_trace.specs.History.{Return, return_of, Begun, with_begun, begun_of, end_of, operation_of}
-use Rattle.hy_trace.specs.Order.{is_done, is_done_return, write_mark, reply_mark, read_mark, mark_by, mark_of, marks_of}
+use Rattle.hy_trace.specs.Order.{is_done, is_done_return, write_mark, found_mark, reply_mark, read_mark, mark_by, mark_of, marks_of}
 use Rattle.hy_trace.proofs.Growth.{Le, le-trans, top, or-cases, start-keeps, start-same}
 use Rattle.hy_theorems.proofs.Writes.{update-own}
 use Rattle.hy_theorems.proofs.Replies.{is_read_reply}
@@ -117,43 +117,31 @@ module _ (p : Params) (t : List Deed) (trace : IsTrace p t) (key : List ℕ) whe
             });
           }
 
+  found-mark-is : (b : Begun) (m : Mark) (r : Return) (s : Timestamp) → is_read_reply r.reply ≡ true → stamp_of_reply r.reply ≡ s → ((u : Timestamp) → IsCovered r.reply u → Le s u) → start_of b.client b.op t ≡ Some b.start → key_of b.start.action ≡ key → return_of p b.client b.op t ≡ Some r → b.start.action ≡ asked.Get key → found_mark p t b s ≡ Some m → IsMarkOf b m
+  found-mark-is b m r s finished told_ covered began key_is returned action is =
+      let made = same_Some (record { op = operation_of p t b; stamp = s; reads = 1; point = read_point b.client b.op t }) m is in
+      let stamp = ap (λ (y : Mark). y.stamp) made in
+      record {
+        began = began;
+        key_is = key_is;
+        op_is = ap (λ (y : Mark). y.op) (sym made);
+        sort = inr (record {
+          ret = r;
+          returned = returned;
+          action_is = action;
+          finished = finished;
+          stamp_is = told_ ∙ stamp;
+          covered = λ u c. subst (λ (y : Timestamp). Le y u) stamp (covered u c);
+          reads_is = ap (λ (y : Mark). y.reads) (sym made);
+          point_is = ap (λ (y : Mark). y.point) (sym made);
+        });
+      }
+
   reply-mark-is : (b : Begun) (m : Mark) (r : Return) (reply : Reply) → r.reply ≡ reply → start_of b.client b.op t ≡ Some b.start → key_of b.start.action ≡ key → return_of p b.client b.op t ≡ Some r → b.start.action ≡ asked.Get key → reply_mark p t b reply ≡ Some m → IsMarkOf b m
   reply-mark-is b m r (told.Value v s) reply_is began key_is returned action is =
-      let made = same_Some (record { op = operation_of p t b; stamp = s; reads = 1; point = read_point b.client b.op t }) m is in
-      let stamp = ap (λ (y : Mark). y.stamp) made in
-      record {
-        began = began;
-        key_is = key_is;
-        op_is = ap (λ (y : Mark). y.op) (sym made);
-        sort = inr (record {
-          ret = r;
-          returned = returned;
-          action_is = action;
-          finished = ap is_read_reply reply_is;
-          stamp_is = ap stamp_of_reply reply_is ∙ stamp;
-          covered = λ u c. subst (λ (y : Timestamp). Le y u) stamp (subst (λ (y : Reply). IsCovered y u) reply_is c);
-          reads_is = ap (λ (y : Mark). y.reads) (sym made);
-          point_is = ap (λ (y : Mark). y.point) (sym made);
-        });
-      }
+      found-mark-is b m r s (ap is_read_reply reply_is) (ap stamp_of_reply reply_is) (λ u c. subst (λ (y : Reply). IsCovered y u) reply_is c) began key_is returned action is
   reply-mark-is b m r (told.Absent s) reply_is began key_is returned action is =
-      let made = same_Some (record { op = operation_of p t b; stamp = s; reads = 1; point = read_point b.client b.op t }) m is in
-      let stamp = ap (λ (y : Mark). y.stamp) made in
-      record {
-        began = began;
-        key_is = key_is;
-        op_is = ap (λ (y : Mark). y.op) (sym made);
-        sort = inr (record {
-          ret = r;
-          returned = returned;
-          action_is = action;
-          finished = ap is_read_reply reply_is;
-          stamp_is = ap stamp_of_reply reply_is ∙ stamp;
-          covered = λ u c. subst (λ (y : Timestamp). Le y u) stamp (subst (λ (y : Reply). IsCovered y u) reply_is c);
-          reads_is = ap (λ (y : Mark). y.reads) (sym made);
-          point_is = ap (λ (y : Mark). y.point) (sym made);
-        });
-      }
+      found-mark-is b m r s (ap is_read_reply reply_is) (ap stamp_of_reply reply_is) (λ u c. subst (λ (y : Reply). IsCovered y u) reply_is c) began key_is returned action is
   reply-mark-is b m r (told.Done s) reply_is began key_is returned action is = absurd (none-some m is)
   reply-mark-is b m r (told.Exhausted s) reply_is began key_is returned action is = absurd (none-some m is)
   reply-mark-is b m r (told.Collected n) reply_is began key_is returned action is = absurd (none-some m is)

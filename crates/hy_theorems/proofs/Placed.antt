@@ -189,12 +189,15 @@ module _ (p : Params) (t : List Deed) (trace : IsTrace p t) (key : List ℕ) whe
       by_test false applied None returned listed = absurd (both_ways false refl listed)
       by_test false applied (Some r) returned listed = by_done r returned (first-true (is_done r.reply) false refl listed)
 
+  pub written : (b : Begun) (m : Mark) → (of : IsMarkOf p t trace key b m) → (w : IsWriteMark p t trace key b m) → IsWrittenAt t key m.stamp m.point
+  written b m of w =
+      let u = written-first b m of w in
+      subst (λ (x : Point). IsWrittenAt t key m.stamp x) (sym w.point_is) (written-at p t trace b.client b.op key m.stamp (mark-writing p t trace key b m of w) u.0 u.1)
+
   pub placed : (b : Begun) (m : Mark) → IsMarkOf p t trace key b m → IsPlaced t key m
   placed b m of =
       elim of.sort [
-        | inl write ↦
-            let u = written-first b m of write in
-            inl (write.reads_is, subst (λ (x : Point). IsWrittenAt t key m.stamp x) (sym write.point_is) (written-at p t trace b.client b.op key m.stamp (mark-writing p t trace key b m of write) u.0 u.1))
+        | inl write ↦ inl (write.reads_is, written b m of write)
         | inr read ↦ inr (read.reads_is, ap (λ (x : Point). x.is_just_before) read.point_is, by_read read)
       ]
     where

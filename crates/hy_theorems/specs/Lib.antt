@@ -4,3 +4,4 @@ pub mod Starving
 pub mod Deleting
 pub mod Refreshing
 pub mod Rows
+pub mod Within

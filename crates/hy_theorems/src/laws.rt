@@ -1,6 +1,7 @@
 //! What holds of the trace of every schedule, whatever is delivered, lost, repeated or forged.
 
 ghost use Rattle.std.specs.Prelude.{◌≡◌, ◌≤◌, ◌+◌, ℕ, List, length, true, false, Some, None};
+ghost use Rattle.std.specs.List.{AllByRecursion};
 ghost use Rattle.hy_record.specs.Stamp.{Timestamp, stamp_lt};
 ghost use Rattle.hy_base.specs.Shape.{IsShape};
 ghost use Rattle.hy_record.specs.Record.{RecordValue, is_tombstone};
@@ -18,10 +19,11 @@ ghost use Rattle.hy_trace.specs.Messages.{IsSent};
 ghost use Rattle.hy_trace.specs.Schedule.{trace_of};
 ghost use Rattle.hy_trace.specs.History.{history_of};
 ghost use Rattle.hy_trace.specs.Points.{applied_count};
-ghost use Rattle.hy_trace.specs.Order.{operations_in_order, operations_by_stamp, linearization_of};
+ghost use Rattle.hy_trace.specs.Order.{marks_of, operations_in_order, operations_by_stamp, linearization_of};
 ghost use Rattle.hy_trace.specs.Hashed.{IsCollisionFree, ArePutBytes};
 ghost use Rattle.hy_trace.specs.Held.{held_of, HasLiars, holders_of};
 ghost use Rattle.hy_trace.specs.Report.{report_of};
+ghost use Rattle.hy_theorems.specs.Within.{IsWithin};
 ghost use Rattle.hy_theorems.specs.Writing.{IsWriting};
 ghost use Rattle.hy_theorems.specs.Deleting.{deletion};
 ghost use Rattle.hy_theorems.specs.Retrieval.{IsRetrievable};
@@ -48,6 +50,11 @@ pub fn orders_stand_by_stamp()
     ensures { (p : Params) (schedule : List Step) (key : List ℕ) →
         let t = trace_of p schedule in
         operations_in_order p t key ≡ operations_by_stamp p t key }
+{}
+
+/// The point of each listed operation is after its invocation and not after its return, whatever clouds do.
+pub fn points_lie_within_operations()
+    ensures { (p : Params) (schedule : List Step) (key : List ℕ) → AllByRecursion IsWithin (marks_of p (trace_of p schedule) key) }
 {}
 
 /// The order of a key's operations respects real time, whatever clouds do.
