@@ -33,10 +33,10 @@ module _ (plan : PutPlan) where
         | inl own ↦ subst (λ (xs : List Cue). is_some (write_reply plan xs) ≡ true) (sym (inputs-own plan.client plan.op plan.key inputs cue own)) (new (write_reply plan (own_of inputs)) _ (rw own at e))
         | inr foreign ↦ absurd (false≢true (rw foreign at e))
       ]
-      where
-        new : (o p : Option Reply) → is_some (new_reply o p) ≡ true → is_some p ≡ true
-        new None p is = is
-        new (Some x) p is = absurd (false≢true is)
+    where
+      new : (o p : Option Reply) → is_some (new_reply o p) ≡ true → is_some p ≡ true
+      new None p is = is
+      new (Some x) p is = absurd (false≢true is)
 
   -- a reply stays
   replied-stays : (later before : List Cue) → is_some (write_reply plan (own_of before)) ≡ true → is_some (write_reply plan (own_of (later ++ before))) ≡ true

@@ -64,10 +64,10 @@ since-any test (cue ∷ own) any =
       | inl there ↦ by_test (test cue) (rw there at any) (λ rest. since-any test own rest)
       | inr none ↦ absurd (false≢true (rw none at any))
     ]
-    where
-      by_test : (b : Bool) → (b || list_any test (since_has own)) ≡ true → (list_any test (since_has own) ≡ true → list_any test own ≡ true) → (b || list_any test own) ≡ true
-      by_test true e next = refl
-      by_test false e next = next e
+  where
+    by_test : (b : Bool) → (b || list_any test (since_has own)) ≡ true → (list_any test (since_has own) ≡ true → list_any test own ≡ true) → (b || list_any test own) ≡ true
+    by_test true e next = refl
+    by_test false e next = next e
 
 -- an input is the answer of one cloud at most
 one-cloud : (stamp : Timestamp) (cue : Cue) → (cloud : ℕ) × ((i : ℕ) → is_answer is_stored stamp i cue ≡ true → cloud ≡ i)
@@ -81,30 +81,31 @@ unfolding acknowledging_clouds
 acks-grow plan stamp cue own there =
     let grows = filter-one-more (acknowledged stamp own) (λ i. is_answer is_stored stamp i cue || acknowledged stamp own i) (one-cloud stamp cue).0 0 (cloud_count plan.f plan.k) (λ i l e. by_or (is_answer is_stored stamp i cue) (acknowledged stamp own i) e i ((one-cloud stamp cue).1 i)) in
     subst (λ (xs : List ℕ). length xs ≤ length (acknowledging_clouds plan stamp own) + 1) (sym (acks-more plan stamp cue own there)) grows
-    where
-      by_or : (a b : Bool) → (a || b) ≡ true → (i : ℕ) → (a ≡ true → (one-cloud stamp cue).0 ≡ i) → (b ≡ true) ⊎ ((one-cloud stamp cue).0 ≡ i)
-      by_or true b e i at_it = inr (at_it refl)
-      by_or false b e i at_it = inl e
+  where
+    by_or : (a b : Bool) → (a || b) ≡ true → (i : ℕ) → (a ≡ true → (one-cloud stamp cue).0 ≡ i) → (b ≡ true) ⊎ ((one-cloud stamp cue).0 ≡ i)
+    by_or true b e i at_it = inr (at_it refl)
+    by_or false b e i at_it = inl e
 
 -- where the record could not be written before, a quorum has acknowledged now at most
 acks-most : (plan : PutPlan) (value : List ℕ) (stamp : Timestamp) (cue : Cue) (own : List Cue) → plan.value ≡ Some value → record_at plan own ≡ None → own_stamp plan (cue ∷ own) ≡ Some stamp → length (acknowledging_clouds plan stamp (cue ∷ own)) ≤ quorum_size plan.f plan.k
 unfolding record_with
 acks-most plan value stamp cue own of none is = by_has (first_has own) refl
-    where
-      few : (n : ℕ) (r : RecordValue) → (if nat_le (quorum_size plan.f plan.k) n then Some r else None) ≡ None → n < quorum_size plan.f plan.k
-      few n r e =
-          elim (cases_bool (nat_le (quorum_size plan.f plan.k) n)) [
-            | inl enough ↦ absurd (none-some r (sym (rw enough at e)))
-            | inr low ↦ grind (arith, nat_tests, low)
-          ]
-      by_has : (o : Option (Option RecordValue)) → first_has own ≡ o → length (acknowledging_clouds plan stamp (cue ∷ own)) ≤ quorum_size plan.f plan.k
-      by_has None has = subst (λ (xs : List ℕ). length xs ≤ quorum_size plan.f plan.k) (sym (acks-none plan stamp (cue ∷ own) (since-more cue own ∙ rw has refl))) (omega arith)
-      by_has (Some held) has =
-          let same : own_stamp plan own ≡ Some stamp = own-upon plan own held has ∙ sym (own-upon plan (cue ∷ own) held (has-more cue own ∙ rw has refl)) ∙ is in
-          let unmade : record_with plan own (Some value) stamp ≡ None = ap (λ (o : Option (List ℕ)). record_with plan own o stamp) (sym of) ∙ sym (record-own plan own stamp same) ∙ none in
-          let low = few (length (acknowledging_clouds plan stamp own)) (value_record stamp value plan.f plan.k (acknowledging_clouds plan stamp own)) unmade in
-          let grows = acks-grow plan stamp cue own (ap is_some has) in
-          omega (arith, low, grows)
+  where
+    few : (n : ℕ) (r : RecordValue) → (if nat_le (quorum_size plan.f plan.k) n then Some r else None) ≡ None → n < quorum_size plan.f plan.k
+    few n r e =
+        elim (cases_bool (nat_le (quorum_size plan.f plan.k) n)) [
+          | inl enough ↦ absurd (none-some r (sym (rw enough at e)))
+          | inr low ↦ grind (arith, nat_tests, low)
+        ]
+
+    by_has : (o : Option (Option RecordValue)) → first_has own ≡ o → length (acknowledging_clouds plan stamp (cue ∷ own)) ≤ quorum_size plan.f plan.k
+    by_has None has = subst (λ (xs : List ℕ). length xs ≤ quorum_size plan.f plan.k) (sym (acks-none plan stamp (cue ∷ own) (since-more cue own ∙ rw has refl))) (omega arith)
+    by_has (Some held) has =
+        let same : own_stamp plan own ≡ Some stamp = own-upon plan own held has ∙ sym (own-upon plan (cue ∷ own) held (has-more cue own ∙ rw has refl)) ∙ is in
+        let unmade : record_with plan own (Some value) stamp ≡ None = ap (λ (o : Option (List ℕ)). record_with plan own o stamp) (sym of) ∙ sym (record-own plan own stamp same) ∙ none in
+        let low = few (length (acknowledging_clouds plan stamp own)) (value_record stamp value plan.f plan.k (acknowledging_clouds plan stamp own)) unmade in
+        let grows = acks-grow plan stamp cue own (ap is_some has) in
+        omega (arith, low, grows)
 
 -- ---- the update
 
@@ -112,10 +113,10 @@ unsent-unmade : (plan : PutPlan) (own : List Cue) → update_of plan own ≡ Non
 unfolding first_has
 unsent-unmade plan [] none = none-to-write plan [] refl
 unsent-unmade plan (cue ∷ own) none = now (update_of plan own) (record_at plan (cue ∷ own)) (sym (update-more plan cue own) ∙ none)
-    where
-      now : (o p : Option RecordValue) → option_or o p ≡ None → p ≡ None
-      now None p e = e
-      now (Some x) p e = absurd (none-some x (sym e))
+  where
+    now : (o p : Option RecordValue) → option_or o p ≡ None → p ≡ None
+    now None p e = e
+    now (Some x) p e = absurd (none-some x (sym e))
 
 -- the record of a quorum, at the input that made it
 made : (plan : PutPlan) (value : List ℕ) (stamp : Timestamp) (own : List Cue) → IsShape plan.f plan.k → own_stamp plan own ≡ Some stamp → length (acknowledging_clouds plan stamp own) ≡ quorum_size plan.f plan.k
@@ -135,25 +136,25 @@ made plan value stamp own shape is enough =
 first-made : (plan : PutPlan) (value : List ℕ) (cue : Cue) (own : List Cue) (r : RecordValue) → IsShape plan.f plan.k → plan.value ≡ Some value → update_of plan own ≡ None → record_at plan (cue ∷ own) ≡ Some r → IsRecordOfPut plan value (cue ∷ own) r
 unfolding record_with
 first-made plan value cue own r shape of none is = by_stamp (own_stamp plan (cue ∷ own)) refl
-    where
-      by_stamp : (o : Option Timestamp) → own_stamp plan (cue ∷ own) ≡ o → IsRecordOfPut plan value (cue ∷ own) r
-      by_stamp None e = absurd (none-some r (sym (none-left plan (cue ∷ own) e) ∙ is))
-      by_stamp (Some x) e =
-          let list = acknowledging_clouds plan x (cue ∷ own) in
-          let by_value : record_with plan (cue ∷ own) (Some value) x ≡ Some r = ap (λ (o : Option (List ℕ)). record_with plan (cue ∷ own) o x) (sym of) ∙ sym (record-own plan (cue ∷ own) x e) ∙ is in
-          let parts = cond_some (nat_le (quorum_size plan.f plan.k) (length list)) (value_record x value plan.f plan.k list) r by_value in
-          let least = leb-true (quorum_size plan.f plan.k) (length list) parts.0 in
-          let most = acks-most plan value x cue own of (unsent-unmade plan own none) e in
-          subst (λ (y : RecordValue). IsRecordOfPut plan value (cue ∷ own) y) parts.1 (made plan value x (cue ∷ own) shape e (omega (arith, least, most)))
+  where
+    by_stamp : (o : Option Timestamp) → own_stamp plan (cue ∷ own) ≡ o → IsRecordOfPut plan value (cue ∷ own) r
+    by_stamp None e = absurd (none-some r (sym (none-left plan (cue ∷ own) e) ∙ is))
+    by_stamp (Some x) e =
+        let list = acknowledging_clouds plan x (cue ∷ own) in
+        let by_value : record_with plan (cue ∷ own) (Some value) x ≡ Some r = ap (λ (o : Option (List ℕ)). record_with plan (cue ∷ own) o x) (sym of) ∙ sym (record-own plan (cue ∷ own) x e) ∙ is in
+        let parts = cond_some (nat_le (quorum_size plan.f plan.k) (length list)) (value_record x value plan.f plan.k list) r by_value in
+        let least = leb-true (quorum_size plan.f plan.k) (length list) parts.0 in
+        let most = acks-most plan value x cue own of (unsent-unmade plan own none) e in
+        subst (λ (y : RecordValue). IsRecordOfPut plan value (cue ∷ own) y) parts.1 (made plan value x (cue ∷ own) shape e (omega (arith, least, most)))
 
 -- it stays so
 own-stays : (plan : PutPlan) (stamp : Timestamp) (cue : Cue) (own : List Cue) → own_stamp plan own ≡ Some stamp → own_stamp plan (cue ∷ own) ≡ Some stamp
 unfolding own_stamp
 own-stays plan stamp cue own is = by_has (first_has own) refl
-    where
-      by_has : (o : Option (Option RecordValue)) → first_has own ≡ o → own_stamp plan (cue ∷ own) ≡ Some stamp
-      by_has None has = absurd (none-some stamp (rw has at is))
-      by_has (Some held) has = own-upon plan (cue ∷ own) held (has-more cue own ∙ rw has refl) ∙ sym (own-upon plan own held has) ∙ is
+  where
+    by_has : (o : Option (Option RecordValue)) → first_has own ≡ o → own_stamp plan (cue ∷ own) ≡ Some stamp
+    by_has None has = absurd (none-some stamp (rw has at is))
+    by_has (Some held) has = own-upon plan (cue ∷ own) held (has-more cue own ∙ rw has refl) ∙ sym (own-upon plan own held has) ∙ is
 
 still-made : (plan : PutPlan) (value : List ℕ) (cue : Cue) (own : List Cue) (r : RecordValue) → IsRecordOfPut plan value own r → IsRecordOfPut plan value (cue ∷ own) r
 still-made plan value cue own r q = record {
@@ -162,19 +163,19 @@ still-made plan value cue own r q = record {
   acknowledged = All-weaker (λ cloud. list_any (is_answer is_stored r.stamp cloud) own ≡ true) (λ cloud. list_any (is_answer is_stored r.stamp cloud) (cue ∷ own) ≡ true) (λ cloud e. later (is_answer is_stored r.stamp cloud cue) (list_any (is_answer is_stored r.stamp cloud) own) e) (clouds_of r.clouds) q.acknowledged;
   hashes = q.hashes;
 }
-    where
-      later : (a b : Bool) → b ≡ true → (a || b) ≡ true
-      later true b e = refl
-      later false b e = e
+  where
+    later : (a b : Bool) → b ≡ true → (a || b) ≡ true
+    later true b e = refl
+    later false b e = e
 
 pub update-made : (plan : PutPlan) (value : List ℕ) (own : List Cue) (r : RecordValue) → IsShape plan.f plan.k → plan.value ≡ Some value → update_of plan own ≡ Some r → IsRecordOfPut plan value own r
 unfolding update_of
 update-made plan value [] r shape of is = absurd (none-some r is)
 update-made plan value (cue ∷ own) r shape of is = by_update (update_of plan own) refl (λ x e. update-made plan value own x shape of e)
-    where
-      by_update : (o : Option RecordValue) → update_of plan own ≡ o → ((x : RecordValue) → update_of plan own ≡ Some x → IsRecordOfPut plan value own x) → IsRecordOfPut plan value (cue ∷ own) r
-      by_update None was before = first-made plan value cue own r shape of was (rw was at is)
-      by_update (Some x) was before = subst (λ (y : RecordValue). IsRecordOfPut plan value (cue ∷ own) y) (same_Some x r (rw was at is)) (still-made plan value cue own x (before x was))
+  where
+    by_update : (o : Option RecordValue) → update_of plan own ≡ o → ((x : RecordValue) → update_of plan own ≡ Some x → IsRecordOfPut plan value own x) → IsRecordOfPut plan value (cue ∷ own) r
+    by_update None was before = first-made plan value cue own r shape of was (rw was at is)
+    by_update (Some x) was before = subst (λ (y : RecordValue). IsRecordOfPut plan value (cue ∷ own) y) (same_Some x r (rw was at is)) (still-made plan value cue own x (before x was))
 
 -- ---- what is sent
 
@@ -189,10 +190,10 @@ UpdatesTo update (outs.Meta (asks.Forget c o k ss)) = Unit {0}
 
 puts-none : (plan : PutPlan) (update : Option RecordValue) (value : Option (List ℕ)) (stamp : Option Timestamp) (clouds : List ℕ) → All (UpdatesTo update) (puts_to plan value stamp clouds)
 puts-none plan update (Some value) (Some stamp) clouds = All-map (UpdatesTo update) _ clouds (all clouds)
-    where
-      all : (xs : List ℕ) → All (λ (x : ℕ). Unit {0}) xs
-      all [] = All-nil (λ (x : ℕ). Unit {0})
-      all (x ∷ xs) = All-cons (λ (x : ℕ). Unit {0}) x xs tt (all xs)
+  where
+    all : (xs : List ℕ) → All (λ (x : ℕ). Unit {0}) xs
+    all [] = All-nil (λ (x : ℕ). Unit {0})
+    all (x ∷ xs) = All-cons (λ (x : ℕ). Unit {0}) x xs tt (all xs)
 puts-none plan update (Some value) None clouds = All-nil _
 puts-none plan update None stamp clouds = All-nil _
 
@@ -208,10 +209,10 @@ if-all update false xs all = All-nil _
 
 earlier-none : (plan : PutPlan) (update : Option RecordValue) (cue : Cue) (own : List Cue) (has : Option (Option RecordValue)) → All (UpdatesTo update) (earlier_sends plan cue own has)
 earlier-none plan update cue own None = by_has (is_some (has_of cue))
-    where
-      by_has : (b : Bool) → All (UpdatesTo update) (if b then puts_to plan plan.value (own_stamp plan (cue ∷ own)) (range_with_len 0 (quorum_size plan.f plan.k)) else if is_tick cue then read_of plan else [])
-      by_has true = puts-none plan update plan.value (own_stamp plan (cue ∷ own)) (range_with_len 0 (quorum_size plan.f plan.k))
-      by_has false = if-all update (is_tick cue) (read_of plan) (read-none plan update)
+  where
+    by_has : (b : Bool) → All (UpdatesTo update) (if b then puts_to plan plan.value (own_stamp plan (cue ∷ own)) (range_with_len 0 (quorum_size plan.f plan.k)) else if is_tick cue then read_of plan else [])
+    by_has true = puts-none plan update plan.value (own_stamp plan (cue ∷ own)) (range_with_len 0 (quorum_size plan.f plan.k))
+    by_has false = if-all update (is_tick cue) (read_of plan) (read-none plan update)
 earlier-none plan update cue own (Some held) = if-all update (is_tick cue) _ (puts-none plan update plan.value (own_stamp plan own) (missing_so_far plan own (own_stamp plan own)))
 
 -- every update that is sent is to the record of the write
@@ -219,11 +220,12 @@ pub sends-update : (plan : PutPlan) (own : List Cue) → All (UpdatesTo (update_
 unfolding write_sends update_of
 sends-update plan [] = read-none plan None
 sends-update plan (cue ∷ own) = by_reply (is_some (write_reply plan own))
-    where
-      by_update : (before now : Option RecordValue) → All (UpdatesTo (option_or before now)) (sends_by plan cue own before now)
-      by_update (Some r) now = if-all (Some r) (is_tick cue) (update_with plan r) (update-own plan (Some r) r refl)
-      by_update None (Some r) = update-own plan (Some r) r refl
-      by_update None None = earlier-none plan None cue own (first_has own)
-      by_reply : (b : Bool) → All (UpdatesTo (option_or (update_of plan own) (record_at plan (cue ∷ own)))) (if b then [] else sends_by plan cue own (update_of plan own) (record_at plan (cue ∷ own)))
-      by_reply true = All-nil _
-      by_reply false = by_update (update_of plan own) (record_at plan (cue ∷ own))
+  where
+    by_update : (before now : Option RecordValue) → All (UpdatesTo (option_or before now)) (sends_by plan cue own before now)
+    by_update (Some r) now = if-all (Some r) (is_tick cue) (update_with plan r) (update-own plan (Some r) r refl)
+    by_update None (Some r) = update-own plan (Some r) r refl
+    by_update None None = earlier-none plan None cue own (first_has own)
+
+    by_reply : (b : Bool) → All (UpdatesTo (option_or (update_of plan own) (record_at plan (cue ∷ own)))) (if b then [] else sends_by plan cue own (update_of plan own) (record_at plan (cue ∷ own)))
+    by_reply true = All-nil _
+    by_reply false = by_update (update_of plan own) (record_at plan (cue ∷ own))
