@@ -53,8 +53,7 @@ impl Fetch {
         ensures rec { IfOk result (λ fetch. fetch.rec ≡ rec.now) }
         ensures awaits { IfOk result (λ fetch. Awaits fetch []) }
     {
-        rec.known();
-        let rec = rec.copy(alloc)?;
+        let rec = rec.known().copy(alloc)?;
         let holders = clouds_of(alloc, rec.clouds())?;
         Ok(Fetch {
             rec,
@@ -235,12 +234,7 @@ impl Fetch {
     }
 
     /// A valid fragment of a cloud: the value, where there are fragments enough.
-    fn keep(
-        &mut self,
-        alloc: Global,
-        reply: &CloudReply,
-        bytes: &Blob,
-    ) -> Result<Heard, NoMemory>
+    fn keep(&mut self, alloc: Global, reply: &CloudReply, bytes: &Blob) -> Result<Heard, NoMemory>
         requires stamp { stamp_eq reply.now.stamp self.old.rec.stamp ≡ true }
         requires valid { IsValidBody self.old.rec reply.now bytes.now }
         ensures keeps { Keeps self.old self.new (cues.Cloud reply.now) result }

@@ -109,11 +109,13 @@ impl Record {
         })
     }
 
-    /// Tells that the record meets the rules of a record.
-    pub fn known(&self)
-        ensures { IsRecord self.now }
+    /// This record, of which the caller then knows that it meets the rules of a record.
+    pub fn known(&self) -> &Record
+        ensures same { result.now ≡ self.now }
+        ensures ruled { IsRecord result.now }
     {
-        let _size = self.size;
+        let _stamp = self.stamp;
+        self
     }
 
     /// The timestamp of the write.
