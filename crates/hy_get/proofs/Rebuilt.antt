@@ -25,10 +25,12 @@ use Rattle.hy_record.proofs.Validity.{test-valid}
 use Rattle.hy_protocol.specs.declared.plan.GetPlan.{GetPlan}
 use Rattle.hy_protocol.specs.Inputs.{has_of}
 use Rattle.hy_protocol.specs.Read.{Version, version_of, newer_version, valid_bytes, valid_in, first_valid, valid_picks, answer_for, answer_of, read_reply, read_sends}
-use Rattle.hy_protocol.specs.Turns.{own_turn}
-use Rattle.hy_get.specs.Laws.{follows, IsRebuilt}
+use Rattle.hy_protocol.specs.Turns.{get_turn}
+use Rattle.hy_get.specs.Laws.{follows, value_reply, HasEnough, IsRebuilt}
+use Rattle.hy_get.specs.Standing.{own_inputs}
 use Rattle.hy_get.proofs.Picks.{picks_by}
-use Rattle.hy_get.proofs.Standing.{version-step, reply-step, turn-answers}
+use Rattle.hy_get.proofs.Standing.{version-step, turn-answers}
+use Rattle.hy_get.proofs.Outcomes.{own-turn}
 
 -- ---- too few fragments, and enough
 
@@ -52,14 +54,13 @@ unfolding read_reply version_of
 too-few [] since r version none = absurd (none-some _ version)
 too-few (cue ∷ before) since r version none = silent-few r since (ap answer_of (sym version) ∙ silent-now (read_reply before) (answer_of (version_of (cue ∷ before))) none)
 
-enough-answers : (r : RecordValue) (since : List Cue) → is_tombstone r.kind ≡ false → r.k ≤ length (valid_picks r since) → answer_for (Some r) since ≡ Some (told.Value (rebuilt_value r.size r.k (take r.k (valid_picks r since))) r.stamp)
+enough-answers : (r : RecordValue) (since : List Cue) → is_tombstone r.kind ≡ false → r.k ≤ length (valid_picks r since) → answer_for (Some r) since ≡ Some (value_reply r since)
 unfolding answer_for
 enough-answers r since value enough = let high : nat_le r.k (length (valid_picks r since)) ≡ true = grind (arith, nat_tests, enough) in rw (value, high) refl
 
-pub enough-replies : (plan : GetPlan) (before since : List Cue) (cue : Cue) (r : RecordValue) → version_of (cue ∷ before) ≡ follows r since → is_tombstone r.kind ≡ false → r.k ≤ length (valid_picks r since) → read_reply before ≡ None
-    → (own_turn (read_sends plan) read_reply (cue ∷ before)).reply ≡ Some (told.Value (rebuilt_value r.size r.k (take r.k (valid_picks r since))) r.stamp)
-enough-replies plan before since cue r version value enough none =
-    ap (λ (t : Turn). t.reply) (turn-answers plan cue before (follows r since) (told.Value (rebuilt_value r.size r.k (take r.k (valid_picks r since))) r.stamp) version none (enough-answers r since value enough))
+pub enough-replies : (plan : GetPlan) (inputs since : List Cue) (cue : Cue) (r : RecordValue) → HasEnough plan inputs cue r since → (get_turn plan (cue ∷ inputs)).reply ≡ Some (value_reply r since)
+enough-replies plan inputs since cue r h =
+    ap (λ (t : Turn). t.reply) (own-turn plan inputs cue h.own ∙ turn-answers plan cue (own_inputs plan inputs) (follows r since) (value_reply r since) h.version h.silent (enough-answers r since h.value h.enough))
 
 -- ---- fragments that the record's hashes verify
 

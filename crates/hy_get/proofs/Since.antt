@@ -24,7 +24,7 @@ use Rattle.hy_protocol.specs.Inputs.{is_fired, is_tick, is_answer}
 use Rattle.hy_protocol.specs.Read.{is_valid_body, valid_picks, failed_clouds, has_fired, timeouts, failed_attempts, answer_for, asks_record, sends_at_rise, sends_since}
 use Rattle.hy_operation.specs.Marks.{is_marked}
 use Rattle.hy_get.specs.declared.fetch.Fetch.{Fetch}
-use Rattle.hy_get.specs.Fetching.{has_failed, sends_at, attempts_of, IsValidBody, Follows, Awaits, DoesSince, Completes}
+use Rattle.hy_get.specs.Fetching.{has_failed, sends_at, sends_after, attempts_of, IsValidBody, Follows, Awaits, DoesSince, Completes}
 use Rattle.hy_get.proofs.Fragments.{picks-start, picks-same, picks-again, picks-new, invalid-in, insert-longer}
 use Rattle.hy_get.proofs.Attempts.{attempts-is, timeouts-same, timeouts-more, timeouts-over, timeouts-start, marks-are, failed-same, failed-in, since-rise, tick-rise, fail-rise}
 
@@ -177,7 +177,7 @@ pub fail-counts : (plan : GetPlan) (old new : Fetch) (since : List Cue) (reply :
     → stamp_eq reply.stamp old.rec.stamp ≡ true → is_valid_body old.rec reply.cloud reply.say ≡ false
     → new.rec ≡ old.rec → new.holders.items ≡ old.holders.items → new.picks.items ≡ old.picks.items → new.fired ≡ old.fired → new.timeouts ≡ old.timeouts
     → ((i : ℕ) → i < 16 → is_marked new.failed i ≡ (is_marked old.failed i || reply.cloud == i))
-    → sent ≡ (if nat_lt (attempts_of old.holders.items old.failed old.timeouts) (attempts_of old.holders.items new.failed old.timeouts) && nat_le (attempts_of old.holders.items new.failed old.timeouts) (old.rec.f + 1) then sends_at plan old.rec old.holders.items (attempts_of old.holders.items new.failed old.timeouts) else [])
+    → sent ≡ sends_after plan old.rec old.holders.items (attempts_of old.holders.items old.failed old.timeouts) (attempts_of old.holders.items new.failed old.timeouts)
     → DoesSince plan old.rec since (cues.Cloud reply) sent new
 fail-counts plan old new since reply sent a stamp bad same holders picks fired times marks is =
     let h : Follows old since = a.follows in
@@ -191,13 +191,12 @@ fail-counts plan old new since reply sent a stamp bad same holders picks fired t
     let count : timeouts r (cue ∷ since) ≡ T = timeouts-same r since cue refl in
     let B : ℕ = length (failed_clouds r since) in
     let A : ℕ = length (failed_clouds r (cue ∷ since)) in
-    let P : ℕ → ℕ → List ℕ → List Out = λ (b a : ℕ) (hs : List ℕ). if nat_lt b a && nat_le a (r.f + 1) then sends_at plan r hs a else [] in
     record {
       sends =
-          is ∙ ap (λ (hs : List ℕ). P (attempts_of old.holders.items old.failed old.timeouts) (attempts_of old.holders.items new.failed old.timeouts) hs) h.holders
-          ∙ ap (λ (b : ℕ). P (b + old.timeouts) (attempts_of old.holders.items new.failed old.timeouts) (clouds_of r.clouds)) was
-          ∙ ap (λ (n : ℕ). P (B + old.timeouts) (n + old.timeouts) (clouds_of r.clouds)) now
-          ∙ ap (λ (t : ℕ). P (B + t) (A + t) (clouds_of r.clouds)) h.timeouts
+          is ∙ ap (λ (hs : List ℕ). sends_after plan r hs (attempts_of old.holders.items old.failed old.timeouts) (attempts_of old.holders.items new.failed old.timeouts)) h.holders
+          ∙ ap (λ (b : ℕ). sends_after plan r (clouds_of r.clouds) (b + old.timeouts) (attempts_of old.holders.items new.failed old.timeouts)) was
+          ∙ ap (λ (n : ℕ). sends_after plan r (clouds_of r.clouds) (B + old.timeouts) (n + old.timeouts)) now
+          ∙ ap (λ (t : ℕ). sends_after plan r (clouds_of r.clouds) (B + t) (A + t)) h.timeouts
           ∙ fail-rise plan r B A T (few-faults r old.ruled)
           ∙ ap (λ (n : ℕ). sends_at_rise plan r false (B + T) (A + n)) (sym count)
           ∙ ap (λ (n : ℕ). sends_at_rise plan r false (B + T) n) (sym (attempts-is r (cue ∷ since)))

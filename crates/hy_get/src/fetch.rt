@@ -45,7 +45,7 @@ pub(crate) enum Heard {
 }
 
 impl Fetch {
-    ghost use Rattle.hy_get.specs.Fetching.{sends_at, attempts_of, IsValidBody, Follows, Awaits, Moves, Keeps, Hears};
+    ghost use Rattle.hy_get.specs.Fetching.{sends_at, sends_after, attempts_of, IsValidBody, Follows, Awaits, Moves, Keeps, Hears};
 
     /// Nothing is known of the record's value yet.
     pub(crate) fn new(alloc: Global, rec: &Record) -> Result<Fetch, NoMemory>
@@ -149,7 +149,7 @@ impl Fetch {
         before: usize,
         attempts: usize,
     ) -> Result<Vec<Out>, NoMemory>
-        ensures { IfOk result (λ sends. sends.items ≡ (if nat_lt before attempts && nat_le attempts (self.now.rec.f + 1) then sends_at (plan_of issuer.now) self.now.rec self.now.holders.items attempts else [])) }
+        ensures { IfOk result (λ sends. sends.items ≡ sends_after (plan_of issuer.now) self.now.rec self.now.holders.items before attempts) }
     {
         if before < attempts && attempts <= usize::from(self.rec.f()) + 1 {
             self.sends_at(alloc, issuer, attempts)
