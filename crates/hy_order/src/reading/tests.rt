@@ -177,13 +177,14 @@ fn long_value_is_refused(rt: HostRuntime) -> Result<(), Fail> {
 }
 
 /// Appends the line of a get that is told at once that its key is absent.
-fn push_get(out: &mut Vec<u8>, number: u64, key: u8) -> Result<(), NoMemory> {
+fn push_get(out: &mut Vec<u8>, number: u32, key: u8) -> Result<(), NoMemory> {
+    let step = 2 * u64::from(number);
     out.extend_from_slice(b"op ")?;
-    push_number(out, number)?;
+    push_number(out, number.into())?;
     out.extend_from_slice(b" 1 get ")?;
     out.push(key)?;
-    push_number_word(out, 2 * number - 1)?;
-    push_number_word(out, 2 * number)?;
+    push_number_word(out, step)?;
+    push_number_word(out, step + 1)?;
     out.extend_from_slice(b" none 0 0\n")?;
     Ok(())
 }
@@ -198,8 +199,8 @@ fn many_orders_and_long_ones_are_read(rt: HostRuntime) -> Result<(), Fail> {
         text.extend_from_slice(b"order ")?;
         text.push(b'a' + key)?;
         for number in 1..=40 {
-            if key == 0 || number % 11 == u64::from(key) {
-                push_number_word(&mut text, number)?;
+            if key == 0 || number % 11 == u32::from(key) {
+                push_number_word(&mut text, number.into())?;
             }
         }
         text.push(b'\n')?;
