@@ -1,2 +1,6 @@
 pub mod Targets
 pub mod Collecting
+pub mod Faults
+pub mod Sizes
+pub mod Machines
+pub mod Clients

@@ -1,0 +1,14 @@
+-- Values that are too large to be put.
+use Rattle.std.specs.Prelude.{length, nat_lt, Option, Some, None, if◌then◌else◌}
+use Rattle.hy_base.specs.declared.limits.TheConstants.{MAX_VALUE}
+use Rattle.hy_record.specs.declared.action.Action.{Action}
+use Rattle.hy_record.specs.declared.action.Action.TheVariants as asked
+use Rattle.hy_client.specs.declared.fault.InvokeFault.{InvokeFault}
+use Rattle.hy_client.specs.declared.fault.InvokeFault.TheVariants as faults
+
+-- the fault of a value that is too large
+abbrev pub size_refusal : Action → Option InvokeFault
+size_refusal (asked.Put key value) = if nat_lt MAX_VALUE (length value) then Some (faults.TooLarge (length value)) else None
+size_refusal (asked.Get key) = None
+size_refusal (asked.Delete key) = None
+size_refusal (asked.Collect key) = None
