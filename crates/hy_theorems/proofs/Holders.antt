@@ -30,13 +30,6 @@ use Rattle.hy_theorems.proofs.Told.{value-not}
 use Rattle.hy_theorems.proofs.Masks.{clouds-of-set, more-pass, enough-honest, clouds-within}
 use Rattle.hy_theorems.proofs.Retrievable.{retrievable}
 
-size-same : (s k : ℕ) → 1 ≤ k → k ≤ 4 → s / k + min 1 (s % k) ≡ (s + (k - 1)) / k
-size-same s zero low high = absurd (omega (arith, low))
-size-same s (suc zero) low high = omega arith
-size-same s (suc (suc zero)) low high = omega arith
-size-same s (suc (suc (suc zero))) low high = omega arith
-size-same s (suc (suc (suc (suc zero)))) low high = omega arith
-size-same s (suc (suc (suc (suc (suc k))))) low high = absurd (omega (arith, high))
 
 and-true : (a b c d : Bool) → a ≡ true → b ≡ true → c ≡ true → d ≡ true → (a && b && c && d) ≡ true
 and-true a b c d one two three four = rw (one, two, three, four) refl
@@ -53,7 +46,7 @@ own-valid x v f k list cloud shape within =
     inside = lt-ltb cloud (cloud_count f k) within
 
     sized : (length (fragment_of v k cloud) == fragment_size (value_record x v f k list).size (value_record x v f k list).k) ≡ true
-    sized = eq-eqb (length (fragment_of v k cloud)) (fragment_size (length v) k) (length-fragment_of v k cloud ∙ size-same (length v) k shape.some shape.parts)
+    sized = eq-eqb (length (fragment_of v k cloud)) (fragment_size (length v) k) (length-fragment_of v k cloud)
 
     hashed : is_hash (hash_of (value_record x v f k list) cloud) (fragment_of v k cloud) ≡ true
     hashed = ap (λ (o : Option (List ℕ)). is_hash o (fragment_of v k cloud)) (hash-of x v f k list cloud shape within) ∙ (bytes_eq-Decides (sha256 (fragment_of v k cloud)) (sha256 (fragment_of v k cloud))).1 refl

@@ -134,7 +134,7 @@ module _ (p : Params) (t : List Deed) (trace : IsTrace p t) (key : List ℕ) whe
       let invoked = ap (λ (x : Operation). x.invoked) of.op_is in
       elim of.sort [
         | inl write ↦
-            let at = written b m of write in
+            let at = written p t trace key b m of write in
             let after = written-after b m of write at in
             record {
               invoked = omega (arith, invoked, after);
