@@ -7,15 +7,15 @@ use crate::failure::Failed;
 
 /// The numbers of the calls that are to fail, and the counts of calls and of faults.
 #[derive(Debug, Drop)]
-pub struct Calls {
-    pub failing: Vec<u32>,
-    pub made: u64,
-    pub faults: u64,
+pub(crate) struct Calls {
+    pub(crate) failing: Vec<u32>,
+    pub(crate) made: u64,
+    pub(crate) faults: u64,
 }
 
 impl Calls {
     /// No call was made yet; the first has number 1.
-    pub fn new(failing: Vec<u32>) -> Calls
+    pub(crate) fn new(failing: Vec<u32>) -> Calls
         ensures { result ≡ record { failing = failing; made = 0; faults = 0 } }
     {
         Calls {
@@ -26,7 +26,7 @@ impl Calls {
     }
 
     /// Begins a call, which fails where its number says so.
-    pub fn begin(&mut self) -> Result<(), Failed>
+    pub(crate) fn begin(&mut self) -> Result<(), Failed>
         ensures fails { IsErr result ↔ FailsNext self.old.failing.items self.old.made }
         ensures failing { self.new.failing ≡ self.old.failing }
         ensures made { self.new.made ≡ next_count self.old.made }
@@ -45,7 +45,7 @@ impl Calls {
     }
 
     /// Counts a fault, and answers it.
-    pub fn fault(&mut self) -> Failed
+    pub(crate) fn fault(&mut self) -> Failed
         ensures { self.new ≡ record self.old { faults = next_count self.old.faults } }
     {
         self.faults = self.faults.saturating_add(1);

@@ -18,6 +18,9 @@ pub const MAX_VALUE: u32 = 1_048_576;
 /// The most bytes of a key.
 pub const MAX_KEY: usize = 64;
 
+/// The most bytes of a record's spelling.
+pub const MAX_RECORD: usize = 338;
+
 /// The most sessions of one metadata service, and so of clients of a schedule.
 pub const MAX_SESSIONS: u32 = 4_096;
 

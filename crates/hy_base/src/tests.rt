@@ -24,7 +24,10 @@ fn limits_are_those_of_the_documents(rt: HostRuntime) {
         (MAX_INPUT, MAX_EVENTS, MAX_SESSIONS),
         (16_777_216, 16_384, 4_096)
     );
-    assert_eq!(rt; (MAX_SN, SN_END), (4_294_967_294, 4_294_967_295));
+    assert_eq!(rt;
+        (MAX_SN, SN_END, MAX_RECORD),
+        (4_294_967_294, 4_294_967_295, 338)
+    );
     assert_eq!(rt; (MAX_COUNT, MAX_LINE), (4_294_967_295, 4_294_967_295));
 }
 

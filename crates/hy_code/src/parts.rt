@@ -8,7 +8,7 @@ use hy_base::{Blob, MAX_N, MAX_VALUE, NoMemory, fragment_size};
 use std::alloc::Global;
 
 /// The k parts of a value, each filled up with zeros.
-pub fn parts(alloc: Global, value: &[u8], k: u8) -> Result<Vec<Pick>, NoMemory>
+pub(crate) fn parts(alloc: Global, value: &[u8], k: u8) -> Result<Vec<Pick>, NoMemory>
     requires one_part { 1 ≤ k }
     requires parts_fit { k ≤ MAX_N }
     requires size_fits { length value.now ≤ MAX_VALUE }

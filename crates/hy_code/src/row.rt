@@ -12,7 +12,12 @@ use hy_gf::{Gf, mul_add};
 use std::alloc::Global;
 
 /// The bytes at `target`, one for each of the `size` places of the picks.
-pub fn row(alloc: Global, size: usize, picks: &[Pick], target: u8) -> Result<Vec<u8>, NoMemory>
+pub(crate) fn row(
+    alloc: Global,
+    size: usize,
+    picks: &[Pick],
+    target: u8,
+) -> Result<Vec<u8>, NoMemory>
     requires sizes { All (λ pick. length pick.bytes ≡ size) picks.now }
     requires different { AreDifferent (clouds picks.now) }
     ensures { IfOk result (λ bytes. bytes.items ≡ row_at size picks.now target) }

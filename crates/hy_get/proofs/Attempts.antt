@@ -18,7 +18,7 @@ use Rattle.hy_protocol.specs.Inputs.{is_fired, is_tick, is_answer}
 use Rattle.hy_protocol.specs.Read.{is_valid_body, failed_clouds, has_fired, timeouts, failed_attempts, get_at, watch_all, sends_at_rise, sends_since}
 use Rattle.hy_operation.specs.Marks.{is_marked}
 use Rattle.hy_operation.specs.declared.marks.Marks.{Marks}
-use Rattle.hy_get.specs.Fetching.{has_failed, sends_at}
+use Rattle.hy_get.specs.Fetching.{has_failed, sends_at, sends_after}
 
 -- ---- the counts
 
@@ -134,8 +134,7 @@ rise-is plan r n =
 
 -- at an answer, where the attempts rise or not, by the numbers that are kept
 pub fail-rise : (plan : GetPlan) (r : RecordValue) (before after times : ℕ) → r.f < 256
-    → (if nat_lt (before + min times 65535) (after + min times 65535) && nat_le (after + min times 65535) (r.f + 1) then sends_at plan r (clouds_of r.clouds) (after + min times 65535) else [])
-    ≡ sends_at_rise plan r false (before + times) (after + times)
+    → sends_after plan r (clouds_of r.clouds) (before + min times 65535) (after + min times 65535) ≡ sends_at_rise plan r false (before + times) (after + times)
 fail-rise plan r before after times few =
     elim (cases_lt before after) [
       | inr still ↦

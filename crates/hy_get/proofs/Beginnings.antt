@@ -57,55 +57,58 @@ no-and false = refl
 
 newer-now : (plan : GetPlan) (m : GetOp) (inputs : List Cue) (c o : ℕ) (k : List ℕ) (rec : Option RecordValue) → StandsForOwn m inputs → is_newer m.state rec ≡ true → IsNewer plan inputs (cues.Meta (says.Has c o k rec)) rec
 newer-now plan m inputs c o k rec h newer = by_state m.state refl newer
-    where
-      by_state : (s : State) → m.state ≡ s → is_newer s rec ≡ true → IsNewer plan inputs (cues.Meta (says.Has c o k rec)) rec
-      by_state (Replied progress) is e = absurd (false≢true e)
-      by_state Reading is e =
-          let r : IsReading inputs = subst (λ (s : State). StandsAt s inputs) is h.state in
-          record { version = version-step (cues.Meta (says.Has c o k rec)) inputs ∙ rw r.version refl; silent = r.reply; calm = rw r.version refl; sends = rw r.version refl }
-      by_state (Fetching fetch) is e =
-          let f : IsFetching fetch inputs = subst (λ (s : State). StandsAt s inputs) is h.state in
-          record {
-            version = version-step (cues.Meta (says.Has c o k rec)) inputs ∙ rw (f.version, e) refl;
-            silent = f.reply;
-            calm = rw f.version (no-and (not (has_fired fetch.rec f.since)));
-            sends = rw (f.version, e) refl;
-          }
+  where
+    by_state : (s : State) → m.state ≡ s → is_newer s rec ≡ true → IsNewer plan inputs (cues.Meta (says.Has c o k rec)) rec
+    by_state (Replied progress) is e = absurd (false≢true e)
+    by_state Reading is e =
+        let r : IsReading inputs = subst (λ (s : State). StandsAt s inputs) is h.state in
+        record { version = version-step (cues.Meta (says.Has c o k rec)) inputs ∙ rw r.version refl; silent = r.reply; calm = rw r.version refl; sends = rw r.version refl }
+    by_state (Fetching fetch) is e =
+        let f : IsFetching fetch inputs = subst (λ (s : State). StandsAt s inputs) is h.state in
+        record {
+          version = version-step (cues.Meta (says.Has c o k rec)) inputs ∙ rw (f.version, e) refl;
+          silent = f.reply;
+          calm = rw f.version (no-and (not (has_fired fetch.rec f.since)));
+          sends = rw (f.version, e) refl;
+        }
 
 pub begin-goes : (plan : GetPlan) (m n : GetOp) (inputs : List Cue) (c o : ℕ) (k : List ℕ) (rec : Option RecordValue) (turn : Turn) → StandsForOwn m inputs → is_newer m.state rec ≡ true → n.rounds ≡ m.rounds → Begins plan rec turn n.state
     → Does plan inputs (cues.Meta (says.Has c o k rec)) turn n
 begin-goes plan m n inputs c o k rec turn h newer rounds b = by_answer (answer_for rec []) rec refl refl b.state
-    where
-      cue : Cue
-      cue = cues.Meta (says.Has c o k rec)
-      w : Version
-      w = record { rec = rec; since = [] }
-      count : n.rounds ≡ min (refresh_count (cues.Meta (says.Has c o k rec) ∷ inputs)) 4294967295
-      count = rounds ∙ h.rounds ∙ ap (λ (x : ℕ). min x 4294967295) (sym (still-rounds (cues.Meta (says.Has c o k rec)) inputs (newer-now plan m inputs c o k rec h newer).calm))
-      by_answer : (a : Option Reply) (held : Option RecordValue) → answer_for rec [] ≡ a → rec ≡ held → IsBegun a held n.state → Does plan inputs (cues.Meta (says.Has c o k rec)) turn n
-      by_answer (Some reply) held is same at_it =
-          let now = newer-now plan m inputs c o k rec h newer in
-          let tells : Tells at_it.0 (version_progress rec []) = subst (λ (x : Option RecordValue). Tells at_it.0 (version_progress x [])) (sym same) at_it.2 in
-          record {
-            done = b.done ∙ ap (λ (a : Option Reply). turn_with (if is_some a then [] else first_gets plan rec) a) is ∙ sym (turn-answers plan cue inputs (Some w) reply now.version now.silent is);
-            stands = record {
-              state = subst (λ (s : State). StandsAt s (cues.Meta (says.Has c o k rec) ∷ inputs)) (sym at_it.1) (replied-now cue inputs w reply at_it.0 now.version now.silent is tells);
-              rounds = count;
-            };
-          }
-      by_answer None None is same at_it = absurd at_it
-      by_answer None (Some r) is same at_it =
-          let now = newer-now plan m inputs c o k rec h newer in
-          let i : IsFetching at_it.0 (cues.Meta (says.Has c o k rec) ∷ inputs) = record {
-            since = [];
-            version = now.version ∙ ap (λ (x : Option RecordValue). Some (record { rec = x; since = [] })) (same ∙ ap Some (sym at_it.2));
-            awaits = at_it.3;
-            reply = reply-now cue inputs (Some w) now.version now.silent ∙ is;
-          } in
-          record {
-            done = b.done ∙ ap (λ (a : Option Reply). turn_with (if is_some a then [] else first_gets plan rec) a) is ∙ ap (λ (xs : List Out). turn_with xs None) (sym now.sends) ∙ sym (turn-silent plan cue inputs (Some w) now.version now.silent is);
-            stands = record { state = subst (λ (s : State). StandsAt s (cues.Meta (says.Has c o k rec) ∷ inputs)) (sym at_it.1) i; rounds = count };
-          }
+  where
+    cue : Cue
+    cue = cues.Meta (says.Has c o k rec)
+
+    w : Version
+    w = record { rec = rec; since = [] }
+
+    count : n.rounds ≡ min (refresh_count (cues.Meta (says.Has c o k rec) ∷ inputs)) 4294967295
+    count = rounds ∙ h.rounds ∙ ap (λ (x : ℕ). min x 4294967295) (sym (still-rounds (cues.Meta (says.Has c o k rec)) inputs (newer-now plan m inputs c o k rec h newer).calm))
+
+    by_answer : (a : Option Reply) (held : Option RecordValue) → answer_for rec [] ≡ a → rec ≡ held → IsBegun a held n.state → Does plan inputs (cues.Meta (says.Has c o k rec)) turn n
+    by_answer (Some reply) held is same at_it =
+        let now = newer-now plan m inputs c o k rec h newer in
+        let tells : Tells at_it.0 (version_progress rec []) = subst (λ (x : Option RecordValue). Tells at_it.0 (version_progress x [])) (sym same) at_it.2 in
+        record {
+          done = b.done ∙ ap (λ (a : Option Reply). turn_with (if is_some a then [] else first_gets plan rec) a) is ∙ sym (turn-answers plan cue inputs (Some w) reply now.version now.silent is);
+          stands = record {
+            state = subst (λ (s : State). StandsAt s (cues.Meta (says.Has c o k rec) ∷ inputs)) (sym at_it.1) (replied-now cue inputs w reply at_it.0 now.version now.silent is tells);
+            rounds = count;
+          };
+        }
+    by_answer None None is same at_it = absurd at_it
+    by_answer None (Some r) is same at_it =
+        let now = newer-now plan m inputs c o k rec h newer in
+        let i : IsFetching at_it.0 (cues.Meta (says.Has c o k rec) ∷ inputs) = record {
+          since = [];
+          version = now.version ∙ ap (λ (x : Option RecordValue). Some (record { rec = x; since = [] })) (same ∙ ap Some (sym at_it.2));
+          awaits = at_it.3;
+          reply = reply-now cue inputs (Some w) now.version now.silent ∙ is;
+        } in
+        record {
+          done = b.done ∙ ap (λ (a : Option Reply). turn_with (if is_some a then [] else first_gets plan rec) a) is ∙ ap (λ (xs : List Out). turn_with xs None) (sym now.sends) ∙ sym (turn-silent plan cue inputs (Some w) now.version now.silent is);
+          stands = record { state = subst (λ (s : State). StandsAt s (cues.Meta (says.Has c o k rec) ∷ inputs)) (sym at_it.1) i; rounds = count };
+        }
 
 -- ---- what is done at once
 
@@ -115,11 +118,11 @@ begins-none plan turn after done is = record { done = done; state = (record { ph
 
 no-parts : (r : RecordValue) → IsRecord r → is_tombstone r.kind ≡ true → r.k ≡ 0
 no-parts r h tomb = by_kind r.kind h.parts tomb
-    where
-      by_kind : (kind : Kind) → IsTrue (is_part_count kind r.k) → is_tombstone kind ≡ true → r.k ≡ 0
-      by_kind Tomb parts is = eqb-true r.k 0 parts
-      by_kind Whole parts is = absurd (false≢true is)
-      by_kind Coded parts is = absurd (false≢true is)
+  where
+    by_kind : (kind : Kind) → IsTrue (is_part_count kind r.k) → is_tombstone kind ≡ true → r.k ≡ 0
+    by_kind Tomb parts is = eqb-true r.k 0 parts
+    by_kind Whole parts is = absurd (false≢true is)
+    by_kind Coded parts is = absurd (false≢true is)
 
 filter-nothing : (xs : List ℕ) → filter (λ x. false) xs ≡ []
 filter-nothing [] = refl

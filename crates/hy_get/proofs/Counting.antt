@@ -151,24 +151,26 @@ requests-of-version : (plan : GetPlan) (inputs : List Cue) (v : Version) → ver
 unfolding requests_upon_answers requests_since version_of
 requests-of-version plan [] v version = absurd (none-some v version)
 requests-of-version plan (cue ∷ before) v version = by_cases (λ w was. requests-of-version plan before w was) (version_of before) (has_of cue) refl refl version
-    where
-      none : is_above (version_of before) (has_of cue) ≡ true → requests_upon_answers plan (cue ∷ before) ≤ requests_since plan v.rec v.since
-      none above = rw above (omega arith)
-      kept : (w : Version) → requests_upon_answers plan before ≤ requests_since plan w.rec w.since → version_of before ≡ Some w → is_above (version_of before) (has_of cue) ≡ false → version_of (cue ∷ before) ≡ Some (record { rec = w.rec; since = cue ∷ w.since })
-          → requests_upon_answers plan (cue ∷ before) ≤ requests_since plan v.rec v.since
-      kept w rest was level now =
-          let few = sends-few plan cue before w was now in
-          let sum : requests_upon_answers plan (cue ∷ before) ≤ requests_since plan w.rec (cue ∷ w.since) = rw level (add-if (is_cloud_answer cue) _ _ _ _ rest few) in
-          subst (λ (x : Version). requests_upon_answers plan (cue ∷ before) ≤ requests_since plan x.rec x.since) (some-same (record { rec = w.rec; since = cue ∷ w.since }) v (sym now ∙ version)) sum
-      by_cases : ((w : Version) → version_of before ≡ Some w → requests_upon_answers plan before ≤ requests_since plan w.rec w.since) → (was : Option Version) (has : Option (Option RecordValue)) → version_of before ≡ was → has_of cue ≡ has → newer_version was cue has ≡ Some v
-          → requests_upon_answers plan (cue ∷ before) ≤ requests_since plan v.rec v.since
-      by_cases earlier None None is at_it e = absurd (none-some v e)
-      by_cases earlier None (Some rec) is at_it e = none (rw (is, at_it) refl)
-      by_cases earlier (Some w) None is at_it e = kept w (earlier w is) is (rw (is, at_it) refl) (rw (is, at_it) refl)
-      by_cases earlier (Some w) (Some rec) is at_it e = elim (cases_bool (stamp_lt (stamp_of_record w.rec) (stamp_of_record rec))) [
-        | inl above ↦ none (rw (is, at_it) above)
-        | inr below ↦ kept w (earlier w is) is (rw (is, at_it) below) (rw (is, at_it, below) refl)
-      ]
+  where
+    none : is_above (version_of before) (has_of cue) ≡ true → requests_upon_answers plan (cue ∷ before) ≤ requests_since plan v.rec v.since
+    none above = rw above (omega arith)
+
+    kept : (w : Version) → requests_upon_answers plan before ≤ requests_since plan w.rec w.since → version_of before ≡ Some w → is_above (version_of before) (has_of cue) ≡ false → version_of (cue ∷ before) ≡ Some (record { rec = w.rec; since = cue ∷ w.since })
+        → requests_upon_answers plan (cue ∷ before) ≤ requests_since plan v.rec v.since
+    kept w rest was level now =
+        let few = sends-few plan cue before w was now in
+        let sum : requests_upon_answers plan (cue ∷ before) ≤ requests_since plan w.rec (cue ∷ w.since) = rw level (add-if (is_cloud_answer cue) _ _ _ _ rest few) in
+        subst (λ (x : Version). requests_upon_answers plan (cue ∷ before) ≤ requests_since plan x.rec x.since) (some-same (record { rec = w.rec; since = cue ∷ w.since }) v (sym now ∙ version)) sum
+
+    by_cases : ((w : Version) → version_of before ≡ Some w → requests_upon_answers plan before ≤ requests_since plan w.rec w.since) → (was : Option Version) (has : Option (Option RecordValue)) → version_of before ≡ was → has_of cue ≡ has → newer_version was cue has ≡ Some v
+        → requests_upon_answers plan (cue ∷ before) ≤ requests_since plan v.rec v.since
+    by_cases earlier None None is at_it e = absurd (none-some v e)
+    by_cases earlier None (Some rec) is at_it e = none (rw (is, at_it) refl)
+    by_cases earlier (Some w) None is at_it e = kept w (earlier w is) is (rw (is, at_it) refl) (rw (is, at_it) refl)
+    by_cases earlier (Some w) (Some rec) is at_it e = elim (cases_bool (stamp_lt (stamp_of_record w.rec) (stamp_of_record rec))) [
+      | inl above ↦ none (rw (is, at_it) above)
+      | inr below ↦ kept w (earlier w is) is (rw (is, at_it) below) (rw (is, at_it, below) refl)
+    ]
 
 pub few-requests : (plan : GetPlan) (inputs since : List Cue) (r : RecordValue) → IsRecord r → version_of inputs ≡ follows r since → requests_upon_answers plan inputs ≤ r.f + quorum_size r.f r.k
 few-requests plan inputs since r ruled version =

@@ -53,17 +53,19 @@ pub picks-again : (r : RecordValue) (since : List Cue) (reply : CloudReply) → 
 unfolding valid_picks first_valid
 picks-again r since reply any =
     picks-agree (λ i. first_valid r i (cues.Cloud reply ∷ since)) (λ i. first_valid r i since) 0 (cloud_count r.f r.k) same
-    where
-      has : is_some (first_valid r reply.cloud since) ≡ true
-      has = picks-have (λ i. first_valid r i since) reply.cloud 0 (cloud_count r.f r.k) any
-      kept : (o now : Option (List ℕ)) → is_some o ≡ true → option_or o now ≡ o
-      kept None now e = absurd (false≢true e)
-      kept (Some x) now e = refl
-      same : (i : ℕ) → 0 ≤ i → option_or (first_valid r i since) (valid_in r i (cues.Cloud reply)) ≡ first_valid r i since
-      same i l = elim (cases_bool (i == reply.cloud)) [
-        | inl at_it ↦ kept (first_valid r i since) (valid_in r i (cues.Cloud reply)) (ap (λ (j : ℕ). is_some (first_valid r j since)) (eqb-true i reply.cloud at_it) ∙ has)
-        | inr off ↦ ap (λ (o : Option (List ℕ)). option_or (first_valid r i since) o) (elsewhere r reply i (eqb-false i reply.cloud off)) ∙ or-none (first_valid r i since)
-      ]
+  where
+    has : is_some (first_valid r reply.cloud since) ≡ true
+    has = picks-have (λ i. first_valid r i since) reply.cloud 0 (cloud_count r.f r.k) any
+
+    kept : (o now : Option (List ℕ)) → is_some o ≡ true → option_or o now ≡ o
+    kept None now e = absurd (false≢true e)
+    kept (Some x) now e = refl
+
+    same : (i : ℕ) → 0 ≤ i → option_or (first_valid r i since) (valid_in r i (cues.Cloud reply)) ≡ first_valid r i since
+    same i l = elim (cases_bool (i == reply.cloud)) [
+      | inl at_it ↦ kept (first_valid r i since) (valid_in r i (cues.Cloud reply)) (ap (λ (j : ℕ). is_some (first_valid r j since)) (eqb-true i reply.cloud at_it) ∙ has)
+      | inr off ↦ ap (λ (o : Option (List ℕ)). option_or (first_valid r i since) o) (elsewhere r reply i (eqb-false i reply.cloud off)) ∙ or-none (first_valid r i since)
+    ]
 
 -- the first valid answer of a cloud
 pub picks-new : (r : RecordValue) (since : List Cue) (reply : CloudReply) (bytes : List ℕ) → IsValidBody r reply bytes → stamp_eq reply.stamp r.stamp ≡ true
@@ -94,12 +96,13 @@ invalid-in r reply bad i =
           let none : valid_bytes r i reply.say ≡ None = ap (λ (j : ℕ). valid_bytes r j reply.say) (sym (eqb-true reply.cloud i on)) ∙ invalid-bytes r reply.cloud reply.say bad in
           rw (on, none) (either (stamp_eq reply.stamp r.stamp))
     ]
-    where
-      nothing : Option (List ℕ)
-      nothing = None
-      either : (b : Bool) → (if b then nothing else nothing) ≡ nothing
-      either true = refl
-      either false = refl
+  where
+    nothing : Option (List ℕ)
+    nothing = None
+
+    either : (b : Bool) → (if b then nothing else nothing) ≡ nothing
+    either true = refl
+    either false = refl
 
 pub insert-longer : (xs : List Pick) (i : ℕ) (x : Pick) → i ≤ length xs → length (insert xs i x) ≡ length xs + 1
 insert-longer [] zero x l = refl

@@ -10,7 +10,7 @@ use Rattle.hy_record.specs.declared.turn.Out.{Out}
 use Rattle.hy_record.specs.declared.turn.Turn.{Turn}
 use Rattle.hy_record.specs.Record.{RecordValue}
 use Rattle.hy_protocol.specs.declared.plan.GetPlan.{GetPlan}
-use Rattle.hy_protocol.specs.Inputs.{addresses, inputs_for}
+use Rattle.hy_protocol.specs.Inputs.{addresses}
 use Rattle.hy_protocol.specs.Read.{asks_record, read_sends, read_reply}
 use Rattle.hy_protocol.specs.Turns.{quiet_turn, own_turn, get_turn}
 use Rattle.hy_operation.specs.declared.issuer.Issuer.{Issuer}
@@ -20,7 +20,7 @@ use Rattle.hy_get.specs.declared.get.GetOp.{GetOp}
 use Rattle.hy_get.specs.declared.get.State.{State}
 use Rattle.hy_get.specs.Requests.{plan_of}
 use Rattle.hy_get.specs.Fetching.{Moves}
-use Rattle.hy_get.specs.Standing.{StandsAt, StandsForOwn, StandsForInputs, Takes, Begins, is_newer}
+use Rattle.hy_get.specs.Standing.{StandsAt, StandsForOwn, own_inputs, StandsForInputs, Takes, Begins, is_newer}
 use Rattle.hy_get.proofs.Since.{tick-reads}
 use Rattle.hy_get.proofs.Beginnings.{begin-goes}
 
@@ -41,13 +41,10 @@ takes-record m n rec (Err e) newer rounds begins err c o k = λ inputs h. record
 abbrev pub IsOwn : GetPlan → Cue → Type 0
 IsOwn plan cue = addresses plan.client plan.op plan.key cue ≡ true
 
-abbrev own_inputs : GetPlan → List Cue → List Cue
-own_inputs plan inputs = inputs_for plan.client plan.op plan.key inputs
-
 own-inputs : (plan : GetPlan) (inputs : List Cue) (cue : Cue) → IsOwn plan cue → own_inputs plan (cue ∷ inputs) ≡ cue ∷ own_inputs plan inputs
 own-inputs plan inputs cue mine = inputs-own plan.client plan.op plan.key inputs cue mine
 
-own-turn : (plan : GetPlan) (inputs : List Cue) (cue : Cue) → IsOwn plan cue → get_turn plan (cue ∷ inputs) ≡ own_turn (read_sends plan) read_reply (cue ∷ own_inputs plan inputs)
+pub own-turn : (plan : GetPlan) (inputs : List Cue) (cue : Cue) → IsOwn plan cue → get_turn plan (cue ∷ inputs) ≡ own_turn (read_sends plan) read_reply (cue ∷ own_inputs plan inputs)
 unfolding get_turn
 own-turn plan inputs cue mine = turn-own (read_sends plan) read_reply plan.client plan.op plan.key inputs cue mine
 

@@ -40,7 +40,7 @@ phase-watch fetch since h calm above =
     let none : has_fired fetch.rec since ≡ false = sym h.fired ∙ calm in
     let kept = kept-are fetch since h in
     let many : nat_lt fetch.rec.f (failed_attempts fetch.rec since) ≡ true =
-        ap (λ (n : ℕ). nat_lt fetch.rec.f n) (attempts-is fetch.rec since) ∙ kept-above (length (failed_clouds fetch.rec since)) (timeouts fetch.rec since) fetch.rec.f (few-faults fetch.rec fetch.ruled) (omega (arith, above, kept)) in
+    ap (λ (n : ℕ). nat_lt fetch.rec.f n) (attempts-is fetch.rec since) ∙ kept-above (length (failed_clouds fetch.rec since)) (timeouts fetch.rec since) fetch.rec.f (few-faults fetch.rec fetch.ruled) (omega (arith, above, kept)) in
     rw (none, many) refl
 
 -- some were not
@@ -49,5 +49,5 @@ phase-fetch fetch since h calm below =
     let none : has_fired fetch.rec since ≡ false = sym h.fired ∙ calm in
     let kept = kept-are fetch since h in
     let few : nat_lt fetch.rec.f (failed_attempts fetch.rec since) ≡ false =
-        ap (λ (n : ℕ). nat_lt fetch.rec.f n) (attempts-is fetch.rec since) ∙ kept-below (length (failed_clouds fetch.rec since)) (timeouts fetch.rec since) fetch.rec.f (few-faults fetch.rec fetch.ruled) (omega (arith, below, kept)) in
+    ap (λ (n : ℕ). nat_lt fetch.rec.f n) (attempts-is fetch.rec since) ∙ kept-below (length (failed_clouds fetch.rec since)) (timeouts fetch.rec since) fetch.rec.f (few-faults fetch.rec fetch.ruled) (omega (arith, below, kept)) in
     rw (none, few) refl

@@ -25,10 +25,12 @@ use Rattle.hy_record.proofs.Validity.{test-valid}
 use Rattle.hy_protocol.specs.declared.plan.GetPlan.{GetPlan}
 use Rattle.hy_protocol.specs.Inputs.{has_of}
 use Rattle.hy_protocol.specs.Read.{Version, version_of, newer_version, valid_bytes, valid_in, first_valid, valid_picks, answer_for, answer_of, read_reply, read_sends}
-use Rattle.hy_protocol.specs.Turns.{own_turn}
-use Rattle.hy_get.specs.Laws.{follows, IsRebuilt}
+use Rattle.hy_protocol.specs.Turns.{get_turn}
+use Rattle.hy_get.specs.Laws.{follows, value_reply, HasEnough, IsRebuilt}
+use Rattle.hy_get.specs.Standing.{own_inputs}
 use Rattle.hy_get.proofs.Picks.{picks_by}
-use Rattle.hy_get.proofs.Standing.{version-step, reply-step, turn-answers}
+use Rattle.hy_get.proofs.Standing.{version-step, turn-answers}
+use Rattle.hy_get.proofs.Outcomes.{own-turn}
 
 -- ---- too few fragments, and enough
 
@@ -52,14 +54,13 @@ unfolding read_reply version_of
 too-few [] since r version none = absurd (none-some _ version)
 too-few (cue ∷ before) since r version none = silent-few r since (ap answer_of (sym version) ∙ silent-now (read_reply before) (answer_of (version_of (cue ∷ before))) none)
 
-enough-answers : (r : RecordValue) (since : List Cue) → is_tombstone r.kind ≡ false → r.k ≤ length (valid_picks r since) → answer_for (Some r) since ≡ Some (told.Value (rebuilt_value r.size r.k (take r.k (valid_picks r since))) r.stamp)
+enough-answers : (r : RecordValue) (since : List Cue) → is_tombstone r.kind ≡ false → r.k ≤ length (valid_picks r since) → answer_for (Some r) since ≡ Some (value_reply r since)
 unfolding answer_for
 enough-answers r since value enough = let high : nat_le r.k (length (valid_picks r since)) ≡ true = grind (arith, nat_tests, enough) in rw (value, high) refl
 
-pub enough-replies : (plan : GetPlan) (before since : List Cue) (cue : Cue) (r : RecordValue) → version_of (cue ∷ before) ≡ follows r since → is_tombstone r.kind ≡ false → r.k ≤ length (valid_picks r since) → read_reply before ≡ None
-    → (own_turn (read_sends plan) read_reply (cue ∷ before)).reply ≡ Some (told.Value (rebuilt_value r.size r.k (take r.k (valid_picks r since))) r.stamp)
-enough-replies plan before since cue r version value enough none =
-    ap (λ (t : Turn). t.reply) (turn-answers plan cue before (follows r since) (told.Value (rebuilt_value r.size r.k (take r.k (valid_picks r since))) r.stamp) version none (enough-answers r since value enough))
+pub enough-replies : (plan : GetPlan) (inputs since : List Cue) (cue : Cue) (r : RecordValue) → HasEnough plan inputs cue r since → (get_turn plan (cue ∷ inputs)).reply ≡ Some (value_reply r since)
+enough-replies plan inputs since cue r h =
+    ap (λ (t : Turn). t.reply) (own-turn plan inputs cue h.own ∙ turn-answers plan cue (own_inputs plan inputs) (follows r since) (value_reply r since) h.version h.silent (enough-answers r since h.value h.enough))
 
 -- ---- fragments that the record's hashes verify
 
@@ -86,18 +87,18 @@ first-is-valid : (r : RecordValue) (i : ℕ) (since : List Cue) (bytes : List �
 unfolding first_valid
 first-is-valid r i [] bytes e = absurd (none-some bytes e)
 first-is-valid r i (cue ∷ before) bytes e = by_first (λ same. first-is-valid r i before bytes same) (first_valid r i before) refl e
-    where
-      by_first : (first_valid r i before ≡ Some bytes → is_valid_fragment r i bytes ≡ true) → (o : Option (List ℕ)) → first_valid r i before ≡ o → option_or o (valid_in r i cue) ≡ Some bytes → is_valid_fragment r i bytes ≡ true
-      by_first earlier None is now = valid-input r i cue bytes now
-      by_first earlier (Some b) is now = earlier (is ∙ now)
+  where
+    by_first : (first_valid r i before ≡ Some bytes → is_valid_fragment r i bytes ≡ true) → (o : Option (List ℕ)) → first_valid r i before ≡ o → option_or o (valid_in r i cue) ≡ Some bytes → is_valid_fragment r i bytes ≡ true
+    by_first earlier None is now = valid-input r i cue bytes now
+    by_first earlier (Some b) is now = earlier (is ∙ now)
 
 all-picks : (P : ℕ → List ℕ → Type 0) (g : ℕ → Option (List ℕ)) (a n : ℕ) → ((i : ℕ) (bytes : List ℕ) → g i ≡ Some bytes → P i bytes) → All (λ pick. P pick.cloud pick.bytes) (picks_by g a n)
 all-picks P g a zero each = All-nil (λ (pick : Pick). P pick.cloud pick.bytes)
 all-picks P g a (suc n) each = by_pick (g a) refl (all-picks P g (a + 1) n each)
-    where
-      by_pick : (o : Option (List ℕ)) → g a ≡ o → All (λ pick. P pick.cloud pick.bytes) (picks_by g (a + 1) n) → All (λ pick. P pick.cloud pick.bytes) (cons_option (option_map (λ bytes. record { cloud = a; bytes = bytes }) o) (picks_by g (a + 1) n))
-      by_pick None is rest = rest
-      by_pick (Some bytes) is rest = All-cons (λ (pick : Pick). P pick.cloud pick.bytes) (record { cloud = a; bytes = bytes }) (picks_by g (a + 1) n) (each a bytes is) rest
+  where
+    by_pick : (o : Option (List ℕ)) → g a ≡ o → All (λ pick. P pick.cloud pick.bytes) (picks_by g (a + 1) n) → All (λ pick. P pick.cloud pick.bytes) (cons_option (option_map (λ bytes. record { cloud = a; bytes = bytes }) o) (picks_by g (a + 1) n))
+    by_pick None is rest = rest
+    by_pick (Some bytes) is rest = All-cons (λ (pick : Pick). P pick.cloud pick.bytes) (record { cloud = a; bytes = bytes }) (picks_by g (a + 1) n) (each a bytes is) rest
 
 picks-verified : (r : RecordValue) (since : List Cue) → All (λ pick. IsValidFragment r pick.cloud pick.bytes) (valid_picks r since)
 unfolding valid_picks
@@ -119,19 +120,21 @@ told-before : (inputs : List Cue) (v : Version) → version_of inputs ≡ Some v
 unfolding version_of
 told-before [] v version = absurd (none-some v version)
 told-before (cue ∷ before) v version = by_cases (λ w was. told-before before w was) (version_of before) (has_of cue) refl refl version
-    where
-      now : (rec : Option RecordValue) → has_of cue ≡ Some rec → Some (record { rec = rec; since = [] }) ≡ Some v → IsTold (cue ∷ before) v
-      now rec has e = subst (IsTold (cue ∷ before)) (some-same (record { rec = rec; since = [] }) v e) (record { has = cue; older = before; was_told = has; parts = refl })
-      kept : (w : Version) → IsTold before w → Some (record { rec = w.rec; since = cue ∷ w.since }) ≡ Some v → IsTold (cue ∷ before) v
-      kept w t e = subst (IsTold (cue ∷ before)) (some-same (record { rec = w.rec; since = cue ∷ w.since }) v e) (record { has = t.has; older = t.older; was_told = t.was_told; parts = ap (λ (xs : List Cue). cue ∷ xs) t.parts })
-      by_cases : ((w : Version) → version_of before ≡ Some w → IsTold before w) → (was : Option Version) (has : Option (Option RecordValue)) → version_of before ≡ was → has_of cue ≡ has → newer_version was cue has ≡ Some v → IsTold (cue ∷ before) v
-      by_cases earlier None None is at_it e = absurd (none-some v e)
-      by_cases earlier None (Some rec) is at_it e = now rec at_it e
-      by_cases earlier (Some w) None is at_it e = kept w (earlier w is) e
-      by_cases earlier (Some w) (Some rec) is at_it e = elim (cases_bool (stamp_lt (stamp_of_record w.rec) (stamp_of_record rec))) [
-        | inl above ↦ now rec at_it (rw above at e)
-        | inr below ↦ kept w (earlier w is) (rw below at e)
-      ]
+  where
+    now : (rec : Option RecordValue) → has_of cue ≡ Some rec → Some (record { rec = rec; since = [] }) ≡ Some v → IsTold (cue ∷ before) v
+    now rec has e = subst (IsTold (cue ∷ before)) (some-same (record { rec = rec; since = [] }) v e) (record { has = cue; older = before; was_told = has; parts = refl })
+
+    kept : (w : Version) → IsTold before w → Some (record { rec = w.rec; since = cue ∷ w.since }) ≡ Some v → IsTold (cue ∷ before) v
+    kept w t e = subst (IsTold (cue ∷ before)) (some-same (record { rec = w.rec; since = cue ∷ w.since }) v e) (record { has = t.has; older = t.older; was_told = t.was_told; parts = ap (λ (xs : List Cue). cue ∷ xs) t.parts })
+
+    by_cases : ((w : Version) → version_of before ≡ Some w → IsTold before w) → (was : Option Version) (has : Option (Option RecordValue)) → version_of before ≡ was → has_of cue ≡ has → newer_version was cue has ≡ Some v → IsTold (cue ∷ before) v
+    by_cases earlier None None is at_it e = absurd (none-some v e)
+    by_cases earlier None (Some rec) is at_it e = now rec at_it e
+    by_cases earlier (Some w) None is at_it e = kept w (earlier w is) e
+    by_cases earlier (Some w) (Some rec) is at_it e = elim (cases_bool (stamp_lt (stamp_of_record w.rec) (stamp_of_record rec))) [
+      | inl above ↦ now rec at_it (rw above at e)
+      | inr below ↦ kept w (earlier w is) (rw below at e)
+    ]
 
 -- ---- a reply that has a value
 
@@ -146,18 +149,18 @@ record IsAnswered (v : Version) (value : List ℕ) (stamp : Timestamp) : Type 0 
 answered : (v : Version) (value : List ℕ) (stamp : Timestamp) → answer_for v.rec v.since ≡ Some (told.Value value stamp) → IsAnswered v value stamp
 unfolding answer_for
 answered v value stamp e = by_record v.rec refl e
-    where
-      by_record : (o : Option RecordValue) → v.rec ≡ o → answer_for o v.since ≡ Some (told.Value value stamp) → IsAnswered v value stamp
-      by_record None is e = absurd (let s : told.Absent (record { sn = 0; cid = 0 }) ≡ told.Value value stamp = some-same _ _ e in cc)
-      by_record (Some r) is e = elim (cases_bool (is_tombstone r.kind)) [
-        | inl tomb ↦ absurd (let s : Some (told.Absent r.stamp) ≡ Some (told.Value value stamp) = rw tomb at e in cc)
-        | inr written ↦ elim (cases_bool (nat_le r.k (length (valid_picks r v.since)))) [
-          | inl enough ↦
-              let s : Some (told.Value (rebuilt_value r.size r.k (take r.k (valid_picks r v.since))) r.stamp) ≡ Some (told.Value value stamp) = rw (written, enough) at e in
-              record { rec = r; is = is; stamped = cc; enough = leb-true r.k (length (valid_picks r v.since)) enough; rebuilt = cc }
-          | inr few ↦ absurd (none-some _ (rw (written, few) at e))
-        ]
+  where
+    by_record : (o : Option RecordValue) → v.rec ≡ o → answer_for o v.since ≡ Some (told.Value value stamp) → IsAnswered v value stamp
+    by_record None is e = absurd (let s : told.Absent (record { sn = 0; cid = 0 }) ≡ told.Value value stamp = some-same _ _ e in cc)
+    by_record (Some r) is e = elim (cases_bool (is_tombstone r.kind)) [
+      | inl tomb ↦ absurd (let s : Some (told.Absent r.stamp) ≡ Some (told.Value value stamp) = rw tomb at e in cc)
+      | inr written ↦ elim (cases_bool (nat_le r.k (length (valid_picks r v.since)))) [
+        | inl enough ↦
+            let s : Some (told.Value (rebuilt_value r.size r.k (take r.k (valid_picks r v.since))) r.stamp) ≡ Some (told.Value value stamp) = rw (written, enough) at e in
+            record { rec = r; is = is; stamped = cc; enough = leb-true r.k (length (valid_picks r v.since)) enough; rebuilt = cc }
+        | inr few ↦ absurd (none-some _ (rw (written, few) at e))
       ]
+    ]
 
 rebuilt-now : (inputs : List Cue) (value : List ℕ) (stamp : Timestamp) (v : Version) → version_of inputs ≡ Some v → answer_for v.rec v.since ≡ Some (told.Value value stamp) → IsRebuilt inputs value stamp
 rebuilt-now inputs value stamp v version answer =
@@ -196,10 +199,11 @@ pub replies-rebuilt : (inputs : List Cue) (value : List ℕ) (stamp : Timestamp)
 unfolding read_reply
 replies-rebuilt [] value stamp e = absurd (none-some _ e)
 replies-rebuilt (cue ∷ before) value stamp e = by_reply (λ same. replies-rebuilt before value stamp same) (read_reply before) refl e
-    where
-      by_version : (v : Option Version) → version_of (cue ∷ before) ≡ v → answer_of v ≡ Some (told.Value value stamp) → IsRebuilt (cue ∷ before) value stamp
-      by_version None version answer = absurd (none-some _ answer)
-      by_version (Some v) version answer = rebuilt-now (cue ∷ before) value stamp v version answer
-      by_reply : (read_reply before ≡ Some (told.Value value stamp) → IsRebuilt before value stamp) → (o : Option Reply) → read_reply before ≡ o → option_or o (answer_of (version_of (cue ∷ before))) ≡ Some (told.Value value stamp) → IsRebuilt (cue ∷ before) value stamp
-      by_reply earlier None is now = by_version (version_of (cue ∷ before)) refl now
-      by_reply earlier (Some reply) is now = rebuilt-later before cue value stamp (earlier (is ∙ now))
+  where
+    by_version : (v : Option Version) → version_of (cue ∷ before) ≡ v → answer_of v ≡ Some (told.Value value stamp) → IsRebuilt (cue ∷ before) value stamp
+    by_version None version answer = absurd (none-some _ answer)
+    by_version (Some v) version answer = rebuilt-now (cue ∷ before) value stamp v version answer
+
+    by_reply : (read_reply before ≡ Some (told.Value value stamp) → IsRebuilt before value stamp) → (o : Option Reply) → read_reply before ≡ o → option_or o (answer_of (version_of (cue ∷ before))) ≡ Some (told.Value value stamp) → IsRebuilt (cue ∷ before) value stamp
+    by_reply earlier None is now = by_version (version_of (cue ∷ before)) refl now
+    by_reply earlier (Some reply) is now = rebuilt-later before cue value stamp (earlier (is ∙ now))

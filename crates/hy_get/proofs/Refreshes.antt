@@ -68,23 +68,24 @@ told-calm cues.Tick rec stamp e = refl
 calm-refresh : (v : Option Version) (cue : Cue) (rec : Option RecordValue) → has_of cue ≡ Some rec → is_refresh v cue ≡ false
 calm-refresh None cue rec e = refl
 calm-refresh (Some v) cue rec e = by_record v.rec
-    where
-      off : (b : Bool) → (b && false) ≡ false
-      off true = refl
-      off false = refl
-      by_record : (r : Option RecordValue) → supersedes r v.since cue ≡ false
-      by_record None = refl
-      by_record (Some r) = let calm = told-calm cue rec r.stamp e in rw calm (off (not (has_fired r v.since)))
+  where
+    off : (b : Bool) → (b && false) ≡ false
+    off true = refl
+    off false = refl
+
+    by_record : (r : Option RecordValue) → supersedes r v.since cue ≡ false
+    by_record None = refl
+    by_record (Some r) = let calm = told-calm cue rec r.stamp e in rw calm (off (not (has_fired r v.since)))
 
 left-step : (rec : Option RecordValue) (since : List Cue) (cue : Cue) (count : ℕ) → (if supersedes rec since cue then count + 1 else count) + left_for rec (cue ∷ since) ≤ count + left_for rec since
 left-step None since cue count = omega arith
 left-step (Some r) since cue count = by_tests (has_fired r since) (is_fired r.stamp cue)
-    where
-      by_tests : (has is : Bool) → (if not has && is then count + 1 else count) + one_if (not (is || has)) ≤ count + one_if (not has)
-      by_tests true true = omega arith
-      by_tests true false = omega arith
-      by_tests false true = omega arith
-      by_tests false false = omega arith
+  where
+    by_tests : (has is : Bool) → (if not has && is then count + 1 else count) + one_if (not (is || has)) ≤ count + one_if (not has)
+    by_tests true true = omega arith
+    by_tests true false = omega arith
+    by_tests false true = omega arith
+    by_tests false false = omega arith
 
 -- what one more input adds
 count-most : (silent refresh : Bool) (count : ℕ) → (if silent && refresh then count + 1 else count) ≤ (if refresh then count + 1 else count)

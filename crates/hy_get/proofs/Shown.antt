@@ -6,7 +6,6 @@ use Rattle.hy_record.specs.declared.action.Phase.TheVariants as phases
 use Rattle.hy_record.specs.declared.action.Reply.{Reply}
 use Rattle.hy_record.specs.declared.turn.Cue.{Cue}
 use Rattle.hy_protocol.specs.declared.plan.GetPlan.{GetPlan}
-use Rattle.hy_protocol.specs.Inputs.{inputs_for}
 use Rattle.hy_protocol.specs.Read.{Version, version_of, answer_of, read_reply}
 use Rattle.hy_protocol.specs.Progress.{progress_of_version, version_progress, read_progress}
 use Rattle.hy_protocol.specs.Turns.{settled_progress, get_progress}
@@ -18,10 +17,10 @@ use Rattle.hy_get.specs.declared.get.GetOp.{GetOp}
 use Rattle.hy_get.specs.declared.get.State.{State}
 use Rattle.hy_get.specs.declared.get.State.TheVariants.{Reading, Fetching, Replied}
 use Rattle.hy_get.specs.Fetching.{Follows}
-use Rattle.hy_get.specs.Standing.{IsReading, IsFetching, IsReplied, StandsAt, StandsForInputs}
+use Rattle.hy_get.specs.Standing.{IsReading, IsFetching, IsReplied, StandsAt, own_inputs, StandsForInputs}
 use Rattle.hy_get.proofs.Standing.{reply-step, progress-is}
 
-progress-of : (plan : GetPlan) (inputs : List Cue) → get_progress plan inputs ≡ settled_progress read_reply read_progress (inputs_for plan.client plan.op plan.key inputs)
+progress-of : (plan : GetPlan) (inputs : List Cue) → get_progress plan inputs ≡ settled_progress read_reply read_progress (own_inputs plan inputs)
 unfolding get_progress
 progress-of plan inputs = refl
 
@@ -39,17 +38,17 @@ unsettled (cue ∷ before) none =
 module _ (plan : GetPlan) (get : GetOp) (inputs : List Cue) (h : StandsForInputs plan get inputs) where
   pub tells-reading : get.state ≡ Reading → Tells (record { phase = phases.Read; have = 0; need = 1 }) (get_progress plan inputs)
   tells-reading is =
-      let r : IsReading (inputs_for plan.client plan.op plan.key inputs) = subst (λ (s : State). StandsAt s (inputs_for plan.client plan.op plan.key inputs)) is h.own.state in
+      let r : IsReading (own_inputs plan inputs) = subst (λ (s : State). StandsAt s (own_inputs plan inputs)) is h.own.state in
       subst (Tells (record { phase = phases.Read; have = 0; need = 1 })) (sym (progress-of plan inputs ∙ unsettled _ r.reply ∙ ap progress_of_version r.version)) (record { phase = refl; have = refl; need = refl })
 
   pub tells-fetching : (fetch : Fetch) (progress : kept.Progress) → get.state ≡ Fetching fetch → ((since : List Cue) → Follows fetch since → length fetch.picks.items ≤ fetch.rec.k → Tells progress (version_progress (Some fetch.rec) since))
       → Tells progress (get_progress plan inputs)
   tells-fetching fetch progress is tells =
-      let f : IsFetching fetch (inputs_for plan.client plan.op plan.key inputs) = subst (λ (s : State). StandsAt s (inputs_for plan.client plan.op plan.key inputs)) is h.own.state in
+      let f : IsFetching fetch (own_inputs plan inputs) = subst (λ (s : State). StandsAt s (own_inputs plan inputs)) is h.own.state in
       let few : length fetch.picks.items ≤ fetch.rec.k = (let l = f.awaits.few in omega (arith, l)) in
       subst (Tells progress) (sym (progress-of plan inputs ∙ unsettled _ f.reply ∙ ap progress_of_version f.version)) (tells f.since f.awaits.follows few)
 
   pub tells-replied : (progress : kept.Progress) → get.state ≡ Replied progress → Tells progress (get_progress plan inputs)
   tells-replied progress is =
-      let r : IsReplied progress (inputs_for plan.client plan.op plan.key inputs) = subst (λ (s : State). StandsAt s (inputs_for plan.client plan.op plan.key inputs)) is h.own.state in
+      let r : IsReplied progress (own_inputs plan inputs) = subst (λ (s : State). StandsAt s (own_inputs plan inputs)) is h.own.state in
       subst (Tells progress) (sym (progress-of plan inputs)) r.told

@@ -24,7 +24,7 @@ use Rattle.hy_protocol.specs.Inputs.{is_fired, is_tick, is_answer}
 use Rattle.hy_protocol.specs.Read.{is_valid_body, valid_picks, failed_clouds, has_fired, timeouts, failed_attempts, answer_for, asks_record, sends_at_rise, sends_since}
 use Rattle.hy_operation.specs.Marks.{is_marked}
 use Rattle.hy_get.specs.declared.fetch.Fetch.{Fetch}
-use Rattle.hy_get.specs.Fetching.{has_failed, sends_at, attempts_of, IsValidBody, Follows, Awaits, DoesSince, Completes}
+use Rattle.hy_get.specs.Fetching.{has_failed, sends_at, sends_after, attempts_of, IsValidBody, Follows, Awaits, DoesSince, Completes}
 use Rattle.hy_get.proofs.Fragments.{picks-start, picks-same, picks-again, picks-new, invalid-in, insert-longer}
 use Rattle.hy_get.proofs.Attempts.{attempts-is, timeouts-same, timeouts-more, timeouts-over, timeouts-start, marks-are, failed-same, failed-in, since-rise, tick-rise, fail-rise}
 
@@ -32,19 +32,19 @@ use Rattle.hy_get.proofs.Attempts.{attempts-is, timeouts-same, timeouts-more, ti
 
 pub few-faults : (r : RecordValue) → IsRecord r → r.f < 256
 few-faults r h = by_kind r.kind h.faults
-    where
-      by_kind : (kind : Kind) → r.f ≤ most_faults kind → r.f < 256
-      by_kind Tomb few = omega (arith, few)
-      by_kind Whole few = omega (arith, few)
-      by_kind Coded few = omega (arith, few)
+  where
+    by_kind : (kind : Kind) → r.f ≤ most_faults kind → r.f < 256
+    by_kind Tomb few = omega (arith, few)
+    by_kind Whole few = omega (arith, few)
+    by_kind Coded few = omega (arith, few)
 
 pub some-parts : (r : RecordValue) → IsRecord r → is_tombstone r.kind ≡ false → (1 ≤ r.k) × (r.k ≤ 4)
 some-parts r h value = by_kind r.kind h.parts value
-    where
-      by_kind : (kind : Kind) → IsTrue (is_part_count kind r.k) → is_tombstone kind ≡ false → (1 ≤ r.k) × (r.k ≤ 4)
-      by_kind Tomb parts no_value = absurd (false≢true (sym no_value))
-      by_kind Whole parts no_value = let one : r.k ≡ 1 = eqb-true r.k 1 parts in (omega (arith, one), omega (arith, one))
-      by_kind Coded parts no_value = (grind (arith, nat_tests, parts), grind (arith, nat_tests, parts))
+  where
+    by_kind : (kind : Kind) → IsTrue (is_part_count kind r.k) → is_tombstone kind ≡ false → (1 ≤ r.k) × (r.k ≤ 4)
+    by_kind Tomb parts no_value = absurd (false≢true (sym no_value))
+    by_kind Whole parts no_value = let one : r.k ≡ 1 = eqb-true r.k 1 parts in (omega (arith, one), omega (arith, one))
+    by_kind Coded parts no_value = (grind (arith, nat_tests, parts), grind (arith, nat_tests, parts))
 
 -- ---- by parts
 
@@ -131,7 +131,7 @@ tick-counts plan old new since sent a calm same holders picks failed fired times
     let count : timeouts old.rec (cues.Tick ∷ since) ≡ timeouts old.rec since + 1 = timeouts-more old.rec since none in
     let marked = marks-are old.rec since old.holders.items old.failed h.holders h.failed in
     let after : failed_attempts old.rec (cues.Tick ∷ since) ≡ length (failed_clouds old.rec since) + (timeouts old.rec since + 1) =
-        attempts-is old.rec (cues.Tick ∷ since) ∙ ap (λ (cs : List ℕ). length cs + timeouts old.rec (cues.Tick ∷ since)) (failed-same old.rec since cues.Tick (λ i. refl)) ∙ ap (λ (n : ℕ). length (failed_clouds old.rec since) + n) count in
+    attempts-is old.rec (cues.Tick ∷ since) ∙ ap (λ (cs : List ℕ). length cs + timeouts old.rec (cues.Tick ∷ since)) (failed-same old.rec since cues.Tick (λ i. refl)) ∙ ap (λ (n : ℕ). length (failed_clouds old.rec since) + n) count in
     record {
       sends =
           is ∙ ap (λ (hs : List ℕ). sends_at plan old.rec hs (attempts_of old.holders.items old.failed old.timeouts + 1)) h.holders
@@ -177,7 +177,7 @@ pub fail-counts : (plan : GetPlan) (old new : Fetch) (since : List Cue) (reply :
     → stamp_eq reply.stamp old.rec.stamp ≡ true → is_valid_body old.rec reply.cloud reply.say ≡ false
     → new.rec ≡ old.rec → new.holders.items ≡ old.holders.items → new.picks.items ≡ old.picks.items → new.fired ≡ old.fired → new.timeouts ≡ old.timeouts
     → ((i : ℕ) → i < 16 → is_marked new.failed i ≡ (is_marked old.failed i || reply.cloud == i))
-    → sent ≡ (if nat_lt (attempts_of old.holders.items old.failed old.timeouts) (attempts_of old.holders.items new.failed old.timeouts) && nat_le (attempts_of old.holders.items new.failed old.timeouts) (old.rec.f + 1) then sends_at plan old.rec old.holders.items (attempts_of old.holders.items new.failed old.timeouts) else [])
+    → sent ≡ sends_after plan old.rec old.holders.items (attempts_of old.holders.items old.failed old.timeouts) (attempts_of old.holders.items new.failed old.timeouts)
     → DoesSince plan old.rec since (cues.Cloud reply) sent new
 fail-counts plan old new since reply sent a stamp bad same holders picks fired times marks is =
     let h : Follows old since = a.follows in
@@ -185,19 +185,18 @@ fail-counts plan old new since reply sent a stamp bad same holders picks fired t
     let cue : Cue = cues.Cloud reply in
     let T : ℕ = timeouts r since in
     let held : (i : ℕ) → i < 16 → is_marked new.failed i ≡ has_failed r i (cue ∷ since) =
-        λ i l. marks i l ∙ ap (λ (b : Bool). b || reply.cloud == i) (h.failed i l) ∙ or-swap (has_failed r i since) (reply.cloud == i) ∙ ap (λ (b : Bool). b || has_failed r i since) (sym (failed-in r reply stamp bad i)) in
+    λ i l. marks i l ∙ ap (λ (b : Bool). b || reply.cloud == i) (h.failed i l) ∙ or-swap (has_failed r i since) (reply.cloud == i) ∙ ap (λ (b : Bool). b || has_failed r i since) (sym (failed-in r reply stamp bad i)) in
     let was = marks-are r since old.holders.items old.failed h.holders h.failed in
     let now = marks-are r (cue ∷ since) old.holders.items new.failed h.holders held in
     let count : timeouts r (cue ∷ since) ≡ T = timeouts-same r since cue refl in
     let B : ℕ = length (failed_clouds r since) in
     let A : ℕ = length (failed_clouds r (cue ∷ since)) in
-    let P : ℕ → ℕ → List ℕ → List Out = λ (b a : ℕ) (hs : List ℕ). if nat_lt b a && nat_le a (r.f + 1) then sends_at plan r hs a else [] in
     record {
       sends =
-          is ∙ ap (λ (hs : List ℕ). P (attempts_of old.holders.items old.failed old.timeouts) (attempts_of old.holders.items new.failed old.timeouts) hs) h.holders
-          ∙ ap (λ (b : ℕ). P (b + old.timeouts) (attempts_of old.holders.items new.failed old.timeouts) (clouds_of r.clouds)) was
-          ∙ ap (λ (n : ℕ). P (B + old.timeouts) (n + old.timeouts) (clouds_of r.clouds)) now
-          ∙ ap (λ (t : ℕ). P (B + t) (A + t) (clouds_of r.clouds)) h.timeouts
+          is ∙ ap (λ (hs : List ℕ). sends_after plan r hs (attempts_of old.holders.items old.failed old.timeouts) (attempts_of old.holders.items new.failed old.timeouts)) h.holders
+          ∙ ap (λ (b : ℕ). sends_after plan r (clouds_of r.clouds) (b + old.timeouts) (attempts_of old.holders.items new.failed old.timeouts)) was
+          ∙ ap (λ (n : ℕ). sends_after plan r (clouds_of r.clouds) (B + old.timeouts) (n + old.timeouts)) now
+          ∙ ap (λ (t : ℕ). sends_after plan r (clouds_of r.clouds) (B + t) (A + t)) h.timeouts
           ∙ fail-rise plan r B A T (few-faults r old.ruled)
           ∙ ap (λ (n : ℕ). sends_at_rise plan r false (B + T) (A + n)) (sym count)
           ∙ ap (λ (n : ℕ). sends_at_rise plan r false (B + T) n) (sym (attempts-is r (cue ∷ since)))
@@ -216,12 +215,12 @@ valid-say r reply bytes v = ap (λ (say : CloudSay). is_valid_body r reply.cloud
 
 valid-quiet : (r : RecordValue) (since : List Cue) (reply : CloudReply) (bytes : List ℕ) → IsValidBody r reply bytes → IsQuiet r since (cues.Cloud reply)
 valid-quiet r since reply bytes v = record { failed = calm; tick = refl; fired = refl }
-    where
-      calm : (i : ℕ) → is_answer (λ say. not (is_valid_body r i say)) r.stamp i (cues.Cloud reply) ≡ false
-      calm i = elim (cases_bool (reply.cloud == i)) [
-        | inr elsewhere_it_is ↦ rw elsewhere_it_is refl
-        | inl here ↦ let good : is_valid_body r i reply.say ≡ true = ap (λ (j : ℕ). is_valid_body r j reply.say) (sym (eqb-true reply.cloud i here)) ∙ valid-say r reply bytes v in rw (here, good) (no-and (stamp_eq reply.stamp r.stamp))
-      ]
+  where
+    calm : (i : ℕ) → is_answer (λ say. not (is_valid_body r i say)) r.stamp i (cues.Cloud reply) ≡ false
+    calm i = elim (cases_bool (reply.cloud == i)) [
+      | inr elsewhere_it_is ↦ rw elsewhere_it_is refl
+      | inl here ↦ let good : is_valid_body r i reply.say ≡ true = ap (λ (j : ℕ). is_valid_body r j reply.say) (sym (eqb-true reply.cloud i here)) ∙ valid-say r reply bytes v in rw (here, good) (no-and (stamp_eq reply.stamp r.stamp))
+    ]
 
 -- a valid answer after which fragments are still too few
 pub keep-does : (plan : GetPlan) (old new : Fetch) (since : List Cue) (reply : CloudReply) (bytes : List ℕ) (sent : List Out) → Awaits old since → IsValidBody old.rec reply bytes → KeepsMarks old new
@@ -293,6 +292,6 @@ fired-does plan old new since c o k stamp sent a calm this is same holders picks
         few = few-still old new a.few same picks;
       };
     }
-    where
-      cue_since : List Cue
-      cue_since = cues.Meta (says.Fired c o k stamp) ∷ since
+  where
+    cue_since : List Cue
+    cue_since = cues.Meta (says.Fired c o k stamp) ∷ since

@@ -86,10 +86,10 @@ none-yet o b e = rw e refl
 
 pub still-rounds : (cue : Cue) (before : List Cue) → is_refresh (version_of before) cue ≡ false → refresh_count (cue ∷ before) ≡ refresh_count before
 still-rounds cue before calm = rounds-step cue before ∙ rw (calm, off (not (is_some (read_reply before)))) refl
-    where
-      off : (b : Bool) → (b && false) ≡ false
-      off true = refl
-      off false = refl
+  where
+    off : (b : Bool) → (b && false) ≡ false
+    off true = refl
+    off false = refl
 
 -- the count that is kept, at one more input after a version
 abbrev pub rounds_after : Fetch → List Cue → Cue → ℕ → ℕ
@@ -98,10 +98,10 @@ rounds_after fetch since cue rounds = if supersedes (Some fetch.rec) since cue t
 -- an input that is no news of the record
 pub calm-rounds : (fetch : Fetch) (since : List Cue) (cue : Cue) (rounds : ℕ) → is_fired fetch.rec.stamp cue ≡ false → rounds ≡ rounds_after fetch since cue rounds
 calm-rounds fetch since cue rounds calm = rw (calm, off (not (has_fired fetch.rec since))) refl
-    where
-      off : (b : Bool) → (b && false) ≡ false
-      off true = refl
-      off false = refl
+  where
+    off : (b : Bool) → (b && false) ≡ false
+    off true = refl
+    off false = refl
 
 saturates : (x : ℕ) → min (min x 4294967295 + 1) 4294967295 ≡ min (x + 1) 4294967295
 saturates x = omega arith
@@ -153,10 +153,10 @@ replied-goes plan m n inputs cue turn progress h was now rounds is =
         rounds = rounds ∙ h.rounds ∙ ap (λ (x : ℕ). min x 4294967295) (sym (rounds-step cue inputs ∙ rw reply refl));
       };
     }
-    where
-      stays : (o p : Option Reply) → is_some o ≡ true → is_some (option_or o p) ≡ true
-      stays None p e = absurd (false≢true e)
-      stays (Some x) p e = refl
+  where
+    stays : (o p : Option Reply) → is_some o ≡ true → is_some (option_or o p) ≡ true
+    stays None p e = absurd (false≢true e)
+    stays (Some x) p e = refl
 
 -- the input leaves the version
 abbrev pub IsSince : Fetch → Cue → Type 0

@@ -1,5 +1,5 @@
 -- What a get keeps of the inputs since it read its record.
-use Rattle.std.specs.Prelude.{◌≡◌, ℕ, ◌+◌, ◌-◌, ◌<◌, ◌≤◌, Bool, true, not, min, nat_le, List, [], ◌∷◌, length, filter, Option, Some, slice_get, Result, MatchResult, if◌then◌else◌}
+use Rattle.std.specs.Prelude.{◌≡◌, ℕ, ◌+◌, ◌-◌, ◌<◌, ◌≤◌, Bool, true, not, min, nat_lt, nat_le, ◌&&◌, List, [], ◌∷◌, length, filter, Option, Some, slice_get, Result, MatchResult, if◌then◌else◌}
 use Rattle.std.specs.List.{list_any}
 use Rattle.std.specs.Global.{Vec}
 use Rattle.hy_base.specs.declared.failure.NoMemory.{NoMemory}
@@ -24,6 +24,10 @@ use Rattle.hy_get.specs.Requests.{watch_and_gets}
 abbrev pub sends_at : GetPlan → RecordValue → List ℕ → ℕ → List Out
 sends_at plan r holders attempts =
     if nat_le attempts r.f then get_at plan r (slice_get holders (r.k + attempts - 1)) else watch_and_gets plan r.stamp holders
+
+-- what is sent where the failed attempts came from one number to another
+abbrev pub sends_after : GetPlan → RecordValue → List ℕ → ℕ → ℕ → List Out
+sends_after plan r holders before attempts = if nat_lt before attempts && nat_le attempts (r.f + 1) then sends_at plan r holders attempts else []
 
 -- how many attempts failed: the holders that are marked, and the timeouts
 abbrev pub attempts_of : List ℕ → Marks → ℕ → ℕ

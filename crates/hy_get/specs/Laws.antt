@@ -1,21 +1,36 @@
--- What the laws of a get speak of. Inputs are those for the get, the newest first.
+-- What the laws of a get speak of. Inputs are those for the get, the newest first, where nothing else is said.
 use Rattle.std.specs.Prelude.{◌≡◌, ℕ, ◌+◌, ◌≤◌, Bool, true, false, List, [], ◌∷◌, ◌++◌, length, take, filter, All, Option, Some, None, is_some, if◌then◌else◌}
 use Rattle.hy_code.specs.declared.pick.Pick.{Pick}
 use Rattle.hy_code.specs.Fragments.{rebuilt_value}
+use Rattle.hy_record.specs.declared.action.Reply.{Reply}
+use Rattle.hy_record.specs.declared.action.Reply.TheVariants as told
 use Rattle.hy_record.specs.declared.turn.Cue.{Cue}
 use Rattle.hy_record.specs.declared.turn.Cue.TheVariants as cues
 use Rattle.hy_record.specs.declared.turn.Out.{Out}
 use Rattle.hy_record.specs.declared.turn.Out.TheVariants as outs
 use Rattle.hy_record.specs.Stamp.{Timestamp, stamp_lt}
-use Rattle.hy_record.specs.Record.{RecordValue, IsValidFragment}
+use Rattle.hy_record.specs.Record.{RecordValue, is_tombstone, IsValidFragment}
 use Rattle.hy_meta.specs.Service.{stamp_of_record}
 use Rattle.hy_protocol.specs.declared.plan.GetPlan.{GetPlan}
-use Rattle.hy_protocol.specs.Inputs.{has_of}
-use Rattle.hy_protocol.specs.Read.{Version, version_of, valid_picks, supersedes, read_sends}
+use Rattle.hy_protocol.specs.Inputs.{addresses, has_of}
+use Rattle.hy_protocol.specs.Read.{Version, version_of, valid_picks, read_reply, supersedes, read_sends}
+use Rattle.hy_get.specs.Standing.{own_inputs}
 
 -- the version is this record, and these inputs came since it was read
 abbrev pub follows : RecordValue → List Cue → Option Version
 follows r since = Some (record { rec = Some r; since = since })
+
+-- the reply of the value that the fragments rebuild
+abbrev pub value_reply : RecordValue → List Cue → Reply
+value_reply r since = told.Value (rebuilt_value r.size r.k (take r.k (valid_picks r since))) r.stamp
+
+-- an input that is for the get of this plan, at which it follows this record, holds fragments enough, and had no reply before
+pub record HasEnough (plan : GetPlan) (inputs : List Cue) (cue : Cue) (r : RecordValue) (since : List Cue) : Type 0 where
+  pub own : addresses plan.client plan.op plan.key cue ≡ true
+  pub silent : read_reply (own_inputs plan inputs) ≡ None
+  pub version : version_of (cue ∷ own_inputs plan inputs) ≡ follows r since
+  pub value : is_tombstone r.kind ≡ false
+  pub enough : r.k ≤ length (valid_picks r since)
 
 -- the get was told a record of this timestamp, and the value is what the first valid fragments rebuild that clouds gave after that, each of which the record's hashes verify
 pub record IsRebuilt (inputs : List Cue) (value : List ℕ) (stamp : Timestamp) : Type 0 where

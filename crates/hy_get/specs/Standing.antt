@@ -49,10 +49,14 @@ pub record StandsForOwn (get : GetOp) (inputs : List Cue) : Type 0 where
   pub state : StandsAt get.state inputs
   pub rounds : get.rounds ≡ min (refresh_count inputs) 4294967295
 
+-- those of the inputs that are for the get of this plan
+abbrev pub own_inputs : GetPlan → List Cue → List Cue
+own_inputs plan inputs = inputs_for plan.client plan.op plan.key inputs
+
 -- the get of this plan stands for these inputs, which are all that it was handed
 pub record StandsForInputs (plan : GetPlan) (get : GetOp) (inputs : List Cue) : Type 0 where
   pub issuer : plan_of get.issuer ≡ plan
-  pub own : StandsForOwn get (inputs_for plan.client plan.op plan.key inputs)
+  pub own : StandsForOwn get (own_inputs plan inputs)
 
 -- at an input that is for the get, it does what is to be done after any inputs that it stands for
 pub record Does (plan : GetPlan) (inputs : List Cue) (cue : Cue) (turn : Turn) (after : GetOp) : Type 0 where

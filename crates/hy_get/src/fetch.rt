@@ -45,7 +45,7 @@ pub(crate) enum Heard {
 }
 
 impl Fetch {
-    ghost use Rattle.hy_get.specs.Fetching.{sends_at, attempts_of, IsValidBody, Follows, Awaits, Moves, Keeps, Hears};
+    ghost use Rattle.hy_get.specs.Fetching.{sends_at, sends_after, attempts_of, IsValidBody, Follows, Awaits, Moves, Keeps, Hears};
 
     /// Nothing is known of the record's value yet.
     pub(crate) fn new(alloc: Global, rec: &Record) -> Result<Fetch, NoMemory>
@@ -53,8 +53,7 @@ impl Fetch {
         ensures rec { IfOk result (λ fetch. fetch.rec ≡ rec.now) }
         ensures awaits { IfOk result (λ fetch. Awaits fetch []) }
     {
-        rec.known();
-        let rec = rec.copy(alloc)?;
+        let rec = rec.known().copy(alloc)?;
         let holders = clouds_of(alloc, rec.clouds())?;
         Ok(Fetch {
             rec,
@@ -150,7 +149,7 @@ impl Fetch {
         before: usize,
         attempts: usize,
     ) -> Result<Vec<Out>, NoMemory>
-        ensures { IfOk result (λ sends. sends.items ≡ (if nat_lt before attempts && nat_le attempts (self.now.rec.f + 1) then sends_at (plan_of issuer.now) self.now.rec self.now.holders.items attempts else [])) }
+        ensures { IfOk result (λ sends. sends.items ≡ sends_after (plan_of issuer.now) self.now.rec self.now.holders.items before attempts) }
     {
         if before < attempts && attempts <= usize::from(self.rec.f()) + 1 {
             self.sends_at(alloc, issuer, attempts)
@@ -235,12 +234,7 @@ impl Fetch {
     }
 
     /// A valid fragment of a cloud: the value, where there are fragments enough.
-    fn keep(
-        &mut self,
-        alloc: Global,
-        reply: &CloudReply,
-        bytes: &Blob,
-    ) -> Result<Heard, NoMemory>
+    fn keep(&mut self, alloc: Global, reply: &CloudReply, bytes: &Blob) -> Result<Heard, NoMemory>
         requires stamp { stamp_eq reply.now.stamp self.old.rec.stamp ≡ true }
         requires valid { IsValidBody self.old.rec reply.now bytes.now }
         ensures keeps { Keeps self.old self.new (cues.Cloud reply.now) result }

@@ -226,8 +226,7 @@ impl GetOp {
             None => Ok(self.reply_absent(alloc, Stamp::zero())),
             Some(rec) => {
                 if rec.is_tomb() {
-                    rec.known();
-                    return Ok(self.reply_absent(alloc, rec.stamp()));
+                    return Ok(self.reply_absent(alloc, rec.known().stamp()));
                 }
                 let fetch = Fetch::new(alloc, rec)?;
                 let sends = fetch.first_gets(alloc, &self.issuer)?;

@@ -1,16 +1,15 @@
 //! Laws of every get, above the definitions: each is a function without a body that ensures it.
 
-ghost use Rattle.std.specs.Prelude.{◌≡◌, ◌+◌, ◌∷◌, ◌<◌, ◌≤◌, ℕ, List, Option, Some, None, length, take, false};
+ghost use Rattle.std.specs.Prelude.{◌≡◌, ◌+◌, ◌∷◌, ◌<◌, ◌≤◌, ℕ, List, Option, Some, None, length};
 ghost use Rattle.hy_record.specs.declared.action.Reply.TheVariants as told;
 ghost use Rattle.hy_record.specs.declared.turn.Cue.{Cue};
-ghost use Rattle.hy_record.specs.Record.{RecordValue, IsRecord, is_tombstone};
+ghost use Rattle.hy_record.specs.Record.{RecordValue, IsRecord};
 ghost use Rattle.hy_base.specs.Shape.{quorum_size};
 ghost use Rattle.hy_record.specs.Stamp.{Timestamp};
 ghost use Rattle.hy_protocol.specs.declared.plan.GetPlan.{GetPlan};
-ghost use Rattle.hy_protocol.specs.Read.{version_of, read_sends, read_reply, valid_picks, refresh_count};
-ghost use Rattle.hy_protocol.specs.Turns.{own_turn};
-ghost use Rattle.hy_code.specs.Fragments.{rebuilt_value};
-ghost use Rattle.hy_get.specs.Laws.{follows, IsRebuilt, refreshes_since, version_count, requests_upon_answers};
+ghost use Rattle.hy_protocol.specs.Read.{version_of, read_reply, valid_picks, refresh_count};
+ghost use Rattle.hy_protocol.specs.Turns.{get_turn};
+ghost use Rattle.hy_get.specs.Laws.{follows, value_reply, HasEnough, IsRebuilt, refreshes_since, version_count, requests_upon_answers};
 
 /// A get that follows a record and has no reply holds valid answers of fewer clouds than the record has parts.
 pub fn gets_await_fragments()
@@ -19,7 +18,7 @@ pub fn gets_await_fragments()
 
 /// A get that holds valid answers of as many clouds as the record that it follows has parts replies with the value that they rebuild, at the step at which it first does.
 pub fn gets_reply_at_enough_fragments()
-    ensures { (plan : GetPlan) (before since : List Cue) (cue : Cue) (r : RecordValue) → version_of (cue ∷ before) ≡ follows r since → is_tombstone r.kind ≡ false → r.k ≤ length (valid_picks r since) → read_reply before ≡ None → (own_turn (read_sends plan) read_reply (cue ∷ before)).reply ≡ Some (told.Value (rebuilt_value r.size r.k (take r.k (valid_picks r since))) r.stamp) }
+    ensures { (plan : GetPlan) (inputs since : List Cue) (cue : Cue) (r : RecordValue) → HasEnough plan inputs cue r since → (get_turn plan (cue ∷ inputs)).reply ≡ Some (value_reply r since) }
 {}
 
 /// The value that a get replies was rebuilt from fragments that the hashes of its record verify.

@@ -41,10 +41,10 @@ pub(crate) fn watch_and_gets(
 ) -> Result<Vec<Out>, NoMemory>
     ensures { IfOk result (λ sends. sends.items ≡ watch_and_gets (plan_of issuer.now) stamp clouds.now) }
 {
-    let mut sends = Vec::new(alloc);
-    sends.push(issuer.watch(stamp))?;
-    add_gets(&mut sends, issuer, stamp, clouds)?;
-    Ok(sends)
+    let mut requests = Vec::new(alloc);
+    requests.push(issuer.watch(stamp))?;
+    add_gets(&mut requests, issuer, stamp, clouds)?;
+    Ok(requests)
 }
 
 /// Adds a request to each of the clouds for what it holds.

@@ -5,3 +5,6 @@ pub mod Holds
 pub mod Answering
 pub mod Lasting
 pub mod Once
+pub mod Least
+pub mod Writes
+pub mod Addressed

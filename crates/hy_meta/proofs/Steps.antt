@@ -174,7 +174,7 @@ outdates-cases (Some r) new s e =
     ]
 
 -- what is superseded was the timestamp of an update
-old-known : (served : List MetaAsk) (key : List ℕ) (s : Timestamp) → is_old served key s ≡ true → has_stamp (known_stamps served key) s ≡ true
+pub old-known : (served : List MetaAsk) (key : List ℕ) (s : Timestamp) → is_old served key s ≡ true → has_stamp (known_stamps served key) s ≡ true
 unfolding is_old known_stamps
 old-known [] key s old = absurd (false≢true old)
 old-known (asks.Read client op k ∷ before) key s old = old-known before key s old
@@ -192,7 +192,7 @@ old-known (asks.Update client op k new ∷ before) key s old =
       | inr was ↦ known-kept before client op k new key s (old-known before key s was)
     ]
 
-known-rising : (served : List MetaAsk) (key : List ℕ) → is_rising (known_stamps served key) ≡ true
+pub known-rising : (served : List MetaAsk) (key : List ℕ) → is_rising (known_stamps served key) ≡ true
 unfolding known_stamps
 known-rising [] key = refl
 known-rising (asks.Read client op k ∷ before) key = known-rising before key

@@ -1,12 +1,15 @@
--- What was answered so far, and which watch a message tells of.
-use Rattle.std.specs.Prelude.{Bool, false, ◌&&◌, ◌==◌, List, [], ◌∷◌, ◌++◌}
+-- What was served and answered so far: which update a record is of, and who a message is for.
+use Rattle.std.specs.Prelude.{◌≡◌, ℕ, Bool, true, false, ◌&&◌, ◌==◌, ◌⊎◌, List, [], ◌∷◌, ◌++◌, filter, Contains}
 use Rattle.hy_record.specs.declared.message.MetaAsk.{MetaAsk}
+use Rattle.hy_record.specs.declared.message.MetaAsk.TheVariants as asks
 use Rattle.hy_record.specs.declared.message.MetaSay.{MetaSay}
 use Rattle.hy_record.specs.declared.message.MetaSay.TheVariants as says
-use Rattle.hy_record.specs.Stamp.{stamp_eq}
+use Rattle.hy_record.specs.Stamp.{stamp_lt, stamp_eq}
 use Rattle.hy_record.specs.Key.{key_eq}
+use Rattle.hy_record.specs.Record.{RecordValue}
 use Rattle.hy_meta.specs.declared.watcher.Watcher.{Watcher}
-use Rattle.hy_meta.specs.Watches.{service_answers}
+use Rattle.hy_meta.specs.Service.{record_stamp}
+use Rattle.hy_meta.specs.Watches.{watches_of, is_waiting, fired, service_answers}
 
 -- all messages that were sent in answer to these requests, oldest first
 unfoldable pub answers_of : List MetaAsk → List MetaSay
@@ -25,3 +28,39 @@ tells_of w (says.Applied client op key stamp) = false
 tells_of w (says.Kept client op key stamp) = false
 tells_of w (says.OldList client op key stamps) = false
 tells_of w (says.Forgot client op key) = false
+
+-- the record is that of an update of the key that was served, and was above the record before it
+pub record IsOfUpdate (all : List MetaAsk) (key : List ℕ) (r : RecordValue) : Type 0 where
+  pub later : List MetaAsk
+  pub client : ℕ
+  pub op : ℕ
+  pub before : List MetaAsk
+  pub served : all ≡ later ++ asks.Update client op key r ∷ before
+  pub above : stamp_lt (record_stamp before key) r.stamp ≡ true
+
+-- an operation of a client on a key
+pub record Asker : Type 0 where
+  pub client : ℕ
+  pub op : ℕ
+  pub key : List ℕ
+
+-- the operation that asks
+abbrev pub asker_of : MetaAsk → Asker
+asker_of (asks.Read client op key) = record { client = client; op = op; key = key }
+asker_of (asks.Update client op key r) = record { client = client; op = op; key = key }
+asker_of (asks.Watch client op key stamp) = record { client = client; op = op; key = key }
+asker_of (asks.Olds client op key) = record { client = client; op = op; key = key }
+asker_of (asks.Forget client op key stamps) = record { client = client; op = op; key = key }
+
+-- the operation that a message is for
+abbrev pub addressee_of : MetaSay → Asker
+addressee_of (says.Has client op key r) = record { client = client; op = op; key = key }
+addressee_of (says.Applied client op key stamp) = record { client = client; op = op; key = key }
+addressee_of (says.Kept client op key stamp) = record { client = client; op = op; key = key }
+addressee_of (says.Fired client op key stamp) = record { client = client; op = op; key = key }
+addressee_of (says.OldList client op key stamps) = record { client = client; op = op; key = key }
+addressee_of (says.Forgot client op key) = record { client = client; op = op; key = key }
+
+-- the message is for the operation that asked, or tells of a watch that was waiting
+abbrev pub IsAddressed : List MetaAsk → MetaAsk → MetaSay → Type 0
+IsAddressed before ask say = (addressee_of say ≡ asker_of ask) ⊎ ((w : Watcher) × Contains (filter (λ v. is_waiting before v) (watches_of before)) w × (say ≡ fired w))

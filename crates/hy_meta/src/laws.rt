@@ -1,15 +1,18 @@
 //! Laws of every metadata service, above the definitions: each is a function without a body that ensures it.
 
-ghost use Rattle.std.specs.Prelude.{◌≡◌, ◌+◌, ◌∷◌, ◌++◌, ℕ, List, Some, true, false, filter, count_by, if◌then◌else◌};
+ghost use Rattle.std.specs.Prelude.{◌≡◌, ◌+◌, ◌∷◌, ◌++◌, ◌⊎◌, ℕ, List, Some, IsTrue, true, false, filter, length, count_by, if◌then◌else◌};
+ghost use Rattle.std.specs.List.{list_all};
 ghost use Rattle.hy_record.specs.declared.message.MetaAsk.{MetaAsk};
 ghost use Rattle.hy_record.specs.declared.message.MetaAsk.TheVariants as asks;
+ghost use Rattle.hy_record.specs.declared.stamps.TheConstants.{MAX_STAMPS};
 ghost use Rattle.hy_record.specs.Stamp.{Timestamp, stamp_lt};
+ghost use Rattle.hy_record.specs.Stamps.{is_rising};
 ghost use Rattle.hy_record.specs.Key.{key_eq};
 ghost use Rattle.hy_record.specs.Record.{RecordValue};
 ghost use Rattle.hy_meta.specs.declared.watcher.Watcher.{Watcher};
-ghost use Rattle.hy_meta.specs.Service.{record_after, record_stamp, is_old};
+ghost use Rattle.hy_meta.specs.Service.{record_after, record_stamp, has_stamp, is_old, old_list};
 ghost use Rattle.hy_meta.specs.Watches.{watches_of, is_waiting};
-ghost use Rattle.hy_meta.specs.Run.{answers_of, watcher_eq, tells_of};
+ghost use Rattle.hy_meta.specs.Run.{IsOfUpdate, answers_of, watcher_eq, tells_of};
 
 /// The timestamp of a key's record never falls.
 pub fn record_never_falls()
@@ -22,6 +25,11 @@ pub fn updates_apply_where_above()
     ensures others { (before : List MetaAsk) (client op : ℕ) (key other : List ℕ) (r : RecordValue) → key_eq key other ≡ false → record_after (asks.Update client op key r ∷ before) other ≡ record_after before other }
 {}
 
+/// A key's record is that of an update of the key that was served, and that was above the record before it.
+pub fn record_is_of_an_update()
+    ensures { (served : List MetaAsk) (key : List ℕ) (r : RecordValue) → record_after served key ≡ Some r → IsOfUpdate served key r }
+{}
+
 /// No update that was served has a timestamp above that of the record.
 pub fn no_update_is_above()
     ensures { (later before : List MetaAsk) (client op : ℕ) (key : List ℕ) (r : RecordValue) → stamp_lt (record_stamp (later ++ asks.Update client op key r ∷ before) key) r.stamp ≡ false }
@@ -30,6 +38,14 @@ pub fn no_update_is_above()
 /// What is superseded is below the record, and stays so for good.
 pub fn olds_stay_below()
     ensures { (later before : List MetaAsk) (key : List ℕ) (stamp : Timestamp) → is_old before key stamp ≡ true → stamp_lt stamp (record_stamp (later ++ before) key) ≡ true }
+{}
+
+/// The list of superseded timestamps rises and has no other ones; one that it lacks is above all that it has, which are as many as it may have.
+pub fn old_list_has_the_least()
+    ensures rising { (asks : List MetaAsk) (key : List ℕ) → IsTrue (is_rising (old_list asks key)) }
+    ensures olds { (asks : List MetaAsk) (key : List ℕ) (stamp : Timestamp) → has_stamp (old_list asks key) stamp ≡ true → is_old asks key stamp ≡ true }
+    ensures least { (asks : List MetaAsk) (key : List ℕ) (stamp : Timestamp) → is_old asks key stamp ≡ true →
+        (has_stamp (old_list asks key) stamp ≡ true) ⊎ ((length (old_list asks key) ≡ MAX_STAMPS) × IsTrue (list_all (λ listed. stamp_lt listed stamp) (old_list asks key))) }
 {}
 
 /// A watch fires at most once: what told of it, and what of it still waits, are the watches that were asked for.

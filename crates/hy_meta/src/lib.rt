@@ -9,8 +9,8 @@ mod service;
 mod watcher;
 
 pub use laws::{
-    no_update_is_above, olds_stay_below, record_never_falls, updates_apply_where_above,
-    watches_fire_once,
+    no_update_is_above, old_list_has_the_least, olds_stay_below, record_is_of_an_update,
+    record_never_falls, updates_apply_where_above, watches_fire_once,
 };
 pub use meta::{Meta, SessionsFull};
 pub use service::Service;

@@ -1,10 +1,11 @@
 //! What every metadata service does.
 
-ghost use Rattle.std.specs.Prelude.{◌≡◌, ◌∷◌, ℕ, List, IfOk, OnOk, OnErr};
+ghost use Rattle.std.specs.Prelude.{◌≡◌, ◌∷◌, ℕ, List, All, IfOk, OnOk, OnErr};
 ghost use Rattle.std.specs.Option.{option_copied};
 ghost use Rattle.hy_record.specs.declared.message.MetaAsk.{MetaAsk};
 ghost use Rattle.hy_meta.specs.Service.{record_after, is_old};
 ghost use Rattle.hy_meta.specs.Watches.{service_answers};
+ghost use Rattle.hy_meta.specs.Run.{IsAddressed};
 ghost use Rattle.hy_meta.specs.Sessions.{next_session, sessions_after};
 
 use hy_base::NoMemory;
@@ -34,6 +35,7 @@ pub trait Meta {
     /// Serves a request, and answers it: the messages, in the order in which they are to be sent.
     fn serve(&mut self, alloc: Global, ask: &MetaAsk) -> Result<Vec<MetaSay>, NoMemory>
         ensures says { IfOk result (λ says. (asks : List MetaAsk) → served self.old asks → says.items ≡ service_answers asks ask.now) }
+        ensures addressed { IfOk result (λ says. (asks : List MetaAsk) → served self.old asks → All (IsAddressed asks ask.now) says.items) }
         ensures ok { OnOk result ((asks : List MetaAsk) → served self.old asks → served self.new (ask.now ∷ asks)) }
         ensures err { OnErr result ((asks : List MetaAsk) → served self.old asks → served self.new asks) }
         ensures given { given self.new ≡ given self.old };

@@ -30,24 +30,45 @@ fn update(alloc: Global, op: u32, at: &Key, sn: u32, cid: u32) -> Result<MetaAsk
     })
 }
 
-/// What any service answers, each message as its kind and its timestamp: Applied, Kept, Fired, or others.
-fn told<M: Meta>(
-    service: &mut M,
-    alloc: Global,
-    ask: &MetaAsk,
-) -> Result<Vec<(u8, u32, Stamp)>, Fail> {
-    let says = service.serve(alloc, ask).ok().ok_or("an answer")?;
+/// What any service answers to the requests, one after another.
+fn told<M: Meta>(service: &mut M, alloc: Global, asks: &[MetaAsk]) -> Result<Vec<MetaSay>, Fail> {
     let mut told = Vec::new(alloc);
-    for say in &says {
-        match say {
-            MetaSay::Applied { op, stamp, .. } => told.push((b'a', *op, *stamp))?,
-            MetaSay::Kept { op, stamp, .. } => told.push((b'k', *op, *stamp))?,
-            MetaSay::Fired { op, stamp, .. } => told.push((b'f', *op, *stamp))?,
-            MetaSay::Has { op, .. } | MetaSay::OldList { op, .. } | MetaSay::Forgot { op, .. } =>
-                told.push((b'o', *op, Stamp::zero()))?,
+    for ask in asks {
+        for say in service.serve(alloc, ask).ok().ok_or("an answer")? {
+            told.push(say)?;
         }
     }
     Ok(told)
+}
+
+/// The answer to an update of client 1 that was applied.
+fn applied(op: u32, at: &Key, stamp: Stamp) -> MetaSay {
+    MetaSay::Applied {
+        client: 1,
+        op,
+        key: *at,
+        stamp,
+    }
+}
+
+/// The answer to an update of client 1 that was refused.
+fn kept(op: u32, at: &Key, stamp: Stamp) -> MetaSay {
+    MetaSay::Kept {
+        client: 1,
+        op,
+        key: *at,
+        stamp,
+    }
+}
+
+/// What tells client 7 of its watch.
+fn fired(op: u32, at: &Key, stamp: Stamp) -> MetaSay {
+    MetaSay::Fired {
+        client: 7,
+        op,
+        key: *at,
+        stamp,
+    }
 }
 
 #[test]
@@ -78,20 +99,17 @@ fn watches_fire_when_they_are_due(rt: HostRuntime) -> Result<(), Fail> {
     let (a, b) = (key("a")?, key("b")?);
     let zero = Stamp::zero();
     let one = stamp(1, 1)?;
-    // It waits, and a key of its own fires it.
-    assert_eq!(rt; told(&mut service, alloc, &watch(1, &a, zero))?.len(), 0);
-    assert!(rt;
-        told(&mut service, alloc, &update(alloc, 2, &b, 1, 1)?)?.as_slice()
-            == [(b'a', 2, one)].as_slice()
-    );
-    assert!(rt;
-        told(&mut service, alloc, &update(alloc, 3, &a, 1, 1)?)?.as_slice()
-            == [(b'a', 3, one), (b'f', 1, zero)].as_slice()
-    );
-    // One that is due fires at once.
-    assert!(rt;
-        told(&mut service, alloc, &watch(4, &a, zero))?.as_slice() == [(b'f', 4, zero)].as_slice()
-    );
+    // The first waits until its own key is updated; the second is due at once.
+    let mut asks = vec![in alloc; watch(1, &a, zero)]?;
+    asks.push(update(alloc, 2, &b, 1, 1)?)?;
+    asks.push(update(alloc, 3, &a, 1, 1)?)?;
+    asks.push(watch(4, &a, zero))?;
+    let says = told(&mut service, alloc, &asks)?;
+    let mut due = vec![in alloc; applied(2, &b, one)]?;
+    due.push(applied(3, &a, one))?;
+    due.push(fired(1, &a, zero))?;
+    due.push(fired(4, &a, zero))?;
+    assert!(rt; says == due);
     Ok(())
 }
 
@@ -101,29 +119,41 @@ fn a_watch_that_is_served_twice_fires_twice(rt: HostRuntime) -> Result<(), Fail>
     let mut service = Service::new(alloc).ok().ok_or("a service")?;
     let a = key("a")?;
     let one = stamp(1, 1)?;
-    let two = stamp(2, 1)?;
-    assert_eq!(rt;
-        told(&mut service, alloc, &update(alloc, 4, &a, 1, 1)?)?.len(),
-        1
-    );
-    assert_eq!(rt; told(&mut service, alloc, &watch(5, &a, one))?.len(), 0);
-    assert_eq!(rt; told(&mut service, alloc, &watch(6, &a, one))?.len(), 0);
-    assert_eq!(rt; told(&mut service, alloc, &watch(5, &a, one))?.len(), 0);
-    assert!(rt;
-        told(&mut service, alloc, &update(alloc, 7, &a, 1, 1)?)?.as_slice()
-            == [(b'k', 7, one)].as_slice()
-    );
-    assert!(rt;
-        told(&mut service, alloc, &update(alloc, 8, &a, 2, 1)?)?.as_slice()
-            == [
-                (b'a', 8, two),
-                (b'f', 5, one),
-                (b'f', 6, one),
-                (b'f', 5, one)
-            ]
-            .as_slice()
-    );
-    assert!(rt; told(&mut service, alloc, &update(alloc, 9, &a, 3, 1)?)?.len() == 1);
+    let mut asks = vec![in alloc; update(alloc, 4, &a, 1, 1)?]?;
+    for op in [5, 6, 5] {
+        asks.push(watch(op, &a, one))?;
+    }
+    for (op, sn) in [(7, 1), (8, 2), (9, 3)] {
+        asks.push(update(alloc, op, &a, sn, 1)?)?;
+    }
+    let says = told(&mut service, alloc, &asks)?;
+    let mut due = vec![in alloc; applied(4, &a, one)]?;
+    due.push(kept(7, &a, one))?;
+    due.push(applied(8, &a, stamp(2, 1)?))?;
+    for op in [5, 6, 5] {
+        due.push(fired(op, &a, one))?;
+    }
+    due.push(applied(9, &a, stamp(3, 1)?))?;
+    assert!(rt; says == due);
+    Ok(())
+}
+
+#[test]
+fn more_than_a_thousand_watches_fire_in_order(rt: HostRuntime) -> Result<(), Fail> {
+    let alloc = rt.alloc();
+    let mut service = Service::new(alloc).ok().ok_or("a service")?;
+    let a = key("a")?;
+    let zero = Stamp::zero();
+    let mut asks = Vec::new(alloc);
+    let mut due = vec![in alloc; applied(9_999, &a, stamp(1, 1)?)]?;
+    for op in 1..1_101u32 {
+        asks.push(watch(op, &a, zero))?;
+        due.push(fired(op, &a, zero))?;
+    }
+    asks.push(update(alloc, 9_999, &a, 1, 1)?)?;
+    let says = told(&mut service, alloc, &asks)?;
+    assert_eq!(rt; says.len(), 1_101);
+    assert!(rt; says == due);
     Ok(())
 }
 
@@ -194,21 +224,50 @@ fn a_forgotten_timestamp_becomes_old_again(rt: HostRuntime) -> Result<(), Fail> 
         key: a,
         stamps: Stamps::of(vec![in alloc; first]?),
     };
-    assert!(rt;
-        told(&mut service, alloc, &forget)?.as_slice() == [(b'o', 2, Stamp::zero())].as_slice()
-    );
+    let forgot = MetaSay::Forgot {
+        client: 1,
+        op: 2,
+        key: a,
+    };
+    let says = told(&mut service, alloc, &[forget])?;
+    assert!(rt; says == vec![in alloc; forgot]?);
     assert!(rt; !service.is_old(&a, first));
     // An update that is refused makes it old.
-    assert!(rt;
-        told(&mut service, alloc, &update(alloc, 3, &a, 1, 1)?)?.as_slice()
-            == [(b'k', 3, stamp(300, 1)?)].as_slice()
-    );
+    let says = told(&mut service, alloc, &[update(alloc, 3, &a, 1, 1)?])?;
+    assert!(rt; says == vec![in alloc; kept(3, &a, stamp(300, 1)?)]?);
     assert!(rt; service.is_old(&a, first));
+    Ok(())
+}
+
+#[test]
+fn a_read_is_answered_with_the_record(rt: HostRuntime) -> Result<(), Fail> {
+    let alloc = rt.alloc();
+    let a = key("a")?;
     let read = MetaAsk::Read {
         client: 1,
         op: 4,
         key: a,
     };
-    assert_eq!(rt; told(&mut service, alloc, &read)?.len(), 1);
+    let last = Stamp::new(300, 1).ok_or("a stamp")?;
+    let rec = Record::tomb(alloc, last).ok().ok_or("a record")?;
+    let has = MetaSay::Has {
+        client: 1,
+        op: 4,
+        key: a,
+        rec: Some(rec),
+    };
+    let says = told(&mut updated(alloc, &a)?, alloc, &[read])?;
+    assert!(rt; says == vec![in alloc; has]?);
     Ok(())
+}
+
+#[test]
+fn laws(_rt: HostRuntime) {
+    record_never_falls();
+    updates_apply_where_above();
+    record_is_of_an_update();
+    no_update_is_above();
+    olds_stay_below();
+    old_list_has_the_least();
+    watches_fire_once();
 }

@@ -30,10 +30,10 @@ register_key-acts (asked.Collect key) acts = absurd (false≢true acts)
 abbrev IsDue : List (List ℕ) → Operation → Type 0
 IsDue keys op = IsTrue (acts_on_register op.action) → IsTrue (has_key keys (key_of_action op.action))
 
-due_behind : (op : Operation) (ops : List Operation) (found : Option (List ℕ)) → register_key op.action ≡ found → AllByRecursion (IsDue (sorted_keys (register_keys ops))) ops
+due_after : (op : Operation) (ops : List Operation) (found : Option (List ℕ)) → register_key op.action ≡ found → AllByRecursion (IsDue (sorted_keys (register_keys ops))) ops
     → AllByRecursion (IsDue (sorted_keys (register_keys (op ∷ ops)))) ops
-due_behind op ops None is due = rw is due
-due_behind op ops (Some key) is due =
+due_after op ops None is due = rw is due
+due_after op ops (Some key) is due =
     rw is (each (λ later known acts. has_key-after_insert key (key_of_action later.action) (sorted_keys (register_keys ops)) (known acts)) ops due)
 
 due_first : (op : Operation) (ops : List Operation) → IsDue (sorted_keys (register_keys (op ∷ ops))) op
@@ -42,7 +42,7 @@ due_first op ops acts =
 
 due : (ops : List Operation) → AllByRecursion (IsDue (sorted_keys (register_keys ops))) ops
 due [] = tt
-due (op ∷ ops) = (due_first op ops, due_behind op ops (register_key op.action) refl (due ops))
+due (op ∷ ops) = (due_first op ops, due_after op ops (register_key op.action) refl (due ops))
 
 has_orders : (report : Report) → IsReport report → AllByRecursion (λ op. IsTrue (acts_on_register op.action) → IsTrue (has_order report.orders (key_of_action op.action))) report.history
 has_orders report ruled =

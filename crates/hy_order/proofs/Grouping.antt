@@ -32,7 +32,7 @@ operations_under-more {Z} old op key empty ops new none is more =
     at None = ap (map (λ (op : Bor Operation). op.now)) none
     at (Some ops) = refl
 
--- the operation stands under its key behind those that stood there, and under each other key stands what stood there
+-- the operation stands under its key after those that stood there, and under each other key stands what stood there
 pub operations_under-added : {Z : Type 0} (old new : List (List ℕ × Vec (Bor Operation) Z)) (op : Operation) (ops : Vec (Bor Operation) Z) (key : List ℕ)
     → lookup (is_at (slice_cmp nat_cmp key)) new ≡ cond (is_at (slice_cmp nat_cmp (key_of_action op.action)) key) (Some ops) (lookup (is_at (slice_cmp nat_cmp key)) old)
     → map (λ (op : Bor Operation). op.now) ops.items ≡ operations_under old (key_of_action op.action) ++ op ∷ []

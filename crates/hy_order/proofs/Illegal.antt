@@ -33,7 +33,7 @@ linearized_from history (order ∷ orders) all =
 pub none_illegal : (history : List Operation) (orders : List Order) → (first_illegal history orders ≡ None) ↔ AllByRecursion (IsLinearized history) orders
 none_illegal history orders = (linearized history orders, linearized_from history orders)
 
--- what is found in an order stands at the front of what is found in it and those behind it
+-- what is found in an order stands at the front of what is found in it and those after it
 pub illegal-first : (history : List Operation) (order : Order) (orders : List Order) (verdict : Verdict) → verdict ≡ first_violation history order.key order.ops → is_legal verdict ≡ false
     → first_illegal history (order ∷ orders) ≡ Some (order.key, verdict)
 illegal-first history order orders verdict is illegal =

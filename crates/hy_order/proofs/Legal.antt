@@ -13,7 +13,7 @@ use Rattle.hy_order.specs.declared.operation.End.TheVariants.{Replied, Pending}
 use Rattle.hy_order.specs.declared.operation.Operation.{Operation}
 use Rattle.hy_order.specs.Linearization.{is_of_key, is_finished, register_after, operation_at, listed, IsMember, TellsRegister, ReadsRegister, RespectsRealTime, IsLinearization}
 use Rattle.hy_order.proofs.Elements.{each}
-use Rattle.hy_order.specs.Violation.{is_listed, missing_number, is_member, stranger_number, repeated_behind, early_numbers, is_held, tells_register, wrong_number, first_violation}
+use Rattle.hy_order.specs.Violation.{is_listed, missing_number, is_member, stranger_number, repeated_after, early_numbers, is_held, tells_register, wrong_number, first_violation}
 
 -- where a choice gives nothing
 cond_none : {X : Type 0} (b : Bool) (x : X) (rest : Option X) → cond b (Some x) rest ≡ None → (b ≡ false) × (rest ≡ None)
@@ -118,17 +118,17 @@ fresh_more_from earlier number order fresh = record {
     both_apart (x ∷ xs) apart other =
         (list_any-append _ earlier (number ∷ []) ∙ or_from _ _ apart.0 (or_from _ _ other.0 refl), both_apart xs apart.1 other.1)
 
-fresh : (earlier order : List ℕ) → repeated_behind earlier order ≡ None → IsFresh earlier order
+fresh : (earlier order : List ℕ) → repeated_after earlier order ≡ None → IsFresh earlier order
 unfolding IsDistinct
 fresh earlier [] none = record { apart = tt; distinct = tt }
 fresh earlier (number ∷ order) none =
-    let parts = cond_none (is_listed earlier number) number (repeated_behind (earlier ++ number ∷ []) order) none in
+    let parts = cond_none (is_listed earlier number) number (repeated_after (earlier ++ number ∷ []) order) none in
     fresh_more earlier number order parts.0 (fresh (earlier ++ number ∷ []) order parts.1)
 
-fresh_from : (earlier order : List ℕ) → IsFresh earlier order → repeated_behind earlier order ≡ None
+fresh_from : (earlier order : List ℕ) → IsFresh earlier order → repeated_after earlier order ≡ None
 fresh_from earlier [] known = refl
 fresh_from earlier (number ∷ order) known =
-    cond_none_from (is_listed earlier number) number (repeated_behind (earlier ++ number ∷ []) order) known.apart.0
+    cond_none_from (is_listed earlier number) number (repeated_after (earlier ++ number ∷ []) order) known.apart.0
     (fresh_from (earlier ++ number ∷ []) order (fresh_more_from earlier number order known))
 
 apart_from_none : (order : List ℕ) → AllByRecursion (λ number. is_listed [] number ≡ false) order
@@ -189,7 +189,7 @@ reads_from held (op ∷ later) known =
 record FindsNothing (history : List Operation) (key order : List ℕ) : Type 0 where
   missing : missing_number history key order ≡ None
   stranger : stranger_number history key order ≡ None
-  twice : repeated_behind [] order ≡ None
+  twice : repeated_after [] order ≡ None
   early : early_numbers (listed history order) ≡ None
   wrong : wrong_number None (listed history order) ≡ None
 
@@ -211,13 +211,13 @@ legal_chain_from missing stranger twice early wrong e1 e2 e3 e4 e5 = rw (e1, e2,
 finds_nothing : (history : List Operation) (key order : List ℕ) → first_violation history key order ≡ Legal → FindsNothing history key order
 unfolding first_violation
 finds_nothing history key order legal =
-    let parts = legal_chain (missing_number history key order) (stranger_number history key order) (repeated_behind [] order) (early_numbers (listed history order)) (wrong_number None (listed history order)) legal in
+    let parts = legal_chain (missing_number history key order) (stranger_number history key order) (repeated_after [] order) (early_numbers (listed history order)) (wrong_number None (listed history order)) legal in
     record { missing = parts.0; stranger = parts.1; twice = parts.2; early = parts.3; wrong = parts.4 }
 
 finds_nothing_legal : (history : List Operation) (key order : List ℕ) → FindsNothing history key order → first_violation history key order ≡ Legal
 unfolding first_violation
 finds_nothing_legal history key order nothing =
-    legal_chain_from (missing_number history key order) (stranger_number history key order) (repeated_behind [] order) (early_numbers (listed history order)) (wrong_number None (listed history order))
+    legal_chain_from (missing_number history key order) (stranger_number history key order) (repeated_after [] order) (early_numbers (listed history order)) (wrong_number None (listed history order))
     nothing.missing nothing.stranger nothing.twice nothing.early nothing.wrong
 
 -- an order has no violation exactly where it is a linearization

@@ -1,19 +1,13 @@
 pub mod ReportLaws
 pub mod OrderRows
 pub mod HeldRows
-pub mod CloudTable
-pub mod LineGroups
 pub mod EndRows
 pub mod OperationRows
 pub mod DueKeys
-pub mod WordRows
-pub mod CloudWords
 pub mod Fronts
 pub mod Elements
 pub mod SortedKeys
 mod Lines
-mod Clouds
-mod WrittenClouds
 mod Legal
 mod Illegal
 mod DueOrders

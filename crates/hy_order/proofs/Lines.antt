@@ -7,10 +7,13 @@ use Rattle.hy_text.specs.Line.{line_text, led_by, spaced}
 use Rattle.hy_order.specs.declared.held.Held.{Held}
 use Rattle.hy_order.specs.declared.operation.Operation.{Operation}
 use Rattle.hy_order.specs.declared.order.Order.{Order}
-use Rattle.hy_order.specs.Report.{operation_row, order_row, held_row, action_words, end_words, stamp_words, cloud_word}
+use Rattle.hy_text.specs.Action.{action_words}
+use Rattle.hy_text.specs.Clouds.{cloud_word}
+use Rattle.hy_text.specs.Stamp.{stamp_words}
+use Rattle.hy_order.specs.Report.{operation_row, order_row, held_row, end_words}
 use Rattle.hy_text.proofs.Spaced.{led_by-append, line_text-cons}
 
--- words behind the first, written group by group
+-- words after the first, written group by group
 line_of_groups : (old first a b c d : List ℕ) (words : List (List ℕ)) → spaced words ≡ a ++ (b ++ (c ++ d))
     → (((((old ++ first) ++ a) ++ b) ++ c) ++ d) ++ 10 ∷ [] ≡ old ++ line_text (first ∷ words)
 line_of_groups old first a b c d words groups =

@@ -59,11 +59,11 @@ module _ (ops : List Operation) (place next earliest : ℕ) (op : Operation) (is
       ∙ ap (λ b. cond b (op ∷ drop next ops) (early_part (drop next ops))) (sym test)
       ∙ ap (λ part. cond (ltb earliest op.invoked) part (early_part (drop next ops))) (sym from_here)
 
-  -- the operation is early where one behind it returned before its invocation
+  -- the operation is early where one after it returned before its invocation
   pub early_part-here : op.invoked < 2 ^ 64 → earliest < op.invoked → drop place ops ≡ early_part (drop place ops)
   early_part-here small early = sym (early_part-at small ∙ cond-true _ _ _ (lt-ltb _ _ early))
 
-  -- and otherwise the early part is that of the operations behind it
+  -- and otherwise the early part is that of the operations after it
   pub early_part-later : (part : List Operation) → op.invoked < 2 ^ 64 → op.invoked ≤ earliest → part ≡ early_part (drop next ops) → part ≡ early_part (drop place ops)
   early_part-later part small late is_part = is_part ∙ sym (early_part-at small ∙ cond-false _ _ _ (le-ltb _ _ late))
 

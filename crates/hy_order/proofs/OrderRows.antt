@@ -6,6 +6,7 @@ use Rattle.std.specs.Fmt.{decimal}
 use Rattle.std.specs.Str.{bytes_eq}
 use Rattle.std.proofs.lemmas.Slice.Eq.{bytes_eq-Decides}
 use Rattle.hy_base.specs.declared.fault.Cause.TheVariants.{BadKey}
+use Rattle.hy_base.specs.declared.limits.TheConstants.{MAX_COUNT}
 use Rattle.hy_record.specs.Key.{is_key}
 use Rattle.hy_text.specs.Line.{first_word, later_words}
 use Rattle.hy_base.specs.Results.{◌>>=◌}
@@ -15,12 +16,13 @@ use Rattle.hy_text.proofs.Printed.{length-key}
 use Rattle.hy_base.proofs.Results.{bind_ok, ok_is}
 use Rattle.hy_text.proofs.Slots.{keyword_takes, words_from_first}
 use Rattle.hy_order.specs.declared.order.Order.{Order}
-use Rattle.hy_order.specs.OpenLine.{OpenLine, Rest}
+use Rattle.hy_text.specs.Kind.{is_next_due, items_from}
+use Rattle.hy_text.specs.OpenLine.{OpenLine, Rest}
 use Rattle.hy_order.specs.Report.{order_row}
 use Rattle.hy_order.specs.ReportRanges.{IsTextNumber}
-use Rattle.hy_order.specs.ReportReading.{order_of, order_in, order_lines, has_key, items_from}
+use Rattle.hy_order.specs.ReportReading.{order_of_words, order_due, order_lines, is_key_due}
 use Rattle.hy_order.specs.WordReaders.{due_key, numbers_of}
-use Rattle.hy_order.proofs.LineGroups.{closed_ok, Takes, AreLinesOf, FitAlong, state_after, line_of_row, items_take}
+use Rattle.hy_text.proofs.ItemRows.{Takes, ReadsAgain, AreLinesOf, FitAlong, state_after, items_take}
 
 numbers_take : (words : List (List ℕ)) (numbers : List ℕ) → numbers_of words ≡ Ok numbers → (words ≡ map decimal numbers) × AllByRecursion IsTextNumber numbers
 unfolding numbers_of
@@ -28,9 +30,9 @@ numbers_take [] numbers e =
     let same : [] ≡ numbers = ok_is [] numbers e in
     subst (λ (ns : List ℕ). ([] ≡ map decimal ns) × AllByRecursion IsTextNumber ns) same (refl, tt)
 numbers_take (word ∷ words) numbers e =
-    let number = bind_ok (number_of 1 4294967295 word) _ numbers e in
+    let number = bind_ok (number_of 1 MAX_COUNT word) _ numbers e in
     let more = bind_ok (numbers_of words) (λ later. Ok (number.0 ∷ later)) numbers number.2 in
-    let n = number_takes 1 4294967295 word number.0 number.1 in
+    let n = number_takes 1 MAX_COUNT word number.0 number.1 in
     let rest = numbers_take words more.0 more.1 in
     let row : word ∷ words ≡ decimal number.0 ∷ map decimal more.0 = ap (λ (w : List ℕ). w ∷ words) n.printed ∙ ap (λ (ws : List (List ℕ)). decimal number.0 ∷ ws) rest.0 in
     subst (λ (ns : List ℕ). (word ∷ words ≡ map decimal ns) × AllByRecursion IsTextNumber ns) (ok_is (number.0 ∷ more.0) numbers more.2)
@@ -41,8 +43,8 @@ unfolding numbers_of
 numbers_again [] fits = refl
 numbers_again (number ∷ numbers) fits =
     let low : 1 ≤ number = fits.0.0 in
-    let high : number ≤ 4294967295 = fits.0.1 in
-    rw (number_again 1 4294967295 number (omega arith) low high, numbers_again numbers fits.1) refl
+    let high : number ≤ MAX_COUNT = fits.0.1 in
+    rw (number_again 1 MAX_COUNT number (omega arith) low high, numbers_again numbers fits.1) refl
 
 due_taken : (t : Bool) (u : Unit {0}) → cond t (Ok tt) (Err BadKey) ≡ Ok u → t ≡ true
 due_taken true u e = refl
@@ -50,7 +52,7 @@ due_taken false u e = absurd cc
 
 -- the order is of the first key that is due, and its numbers are in range
 pub record FitsKeys (keys : List (List ℕ)) (order : Order) : Type 0 where
-  pub there : has_key keys ≡ true
+  pub there : is_key_due keys ≡ true
   pub key : order.key ≡ first_word keys
   pub numbers : AllByRecursion IsTextNumber order.ops
 
@@ -58,22 +60,18 @@ pub record FitsKeys (keys : List (List ℕ)) (order : Order) : Type 0 where
 abbrev pub AreKeys : List (List ℕ) → Type 0
 AreKeys keys = AllByRecursion (λ key. IsTrue (is_key key)) keys
 
-first_is_key : (keys : List (List ℕ)) → AreKeys keys → has_key keys ≡ true → IsTrue (is_key (first_word keys))
-first_is_key [] are there = absurd cc
-first_is_key (key ∷ keys) are there = are.0
-
 later_are : (keys : List (List ℕ)) → AreKeys keys → AreKeys (later_words keys)
 later_are [] are = tt
 later_are (key ∷ keys) are = are.1
 
--- the words behind the keyword are those of the order
+-- the words after the keyword are those of the order
 record SpellsOrder (key : List ℕ) (words : List (List ℕ)) (order : Order) : Type 0 where
   row : codes "order" ∷ words ≡ order_row order
   same : order.key ≡ key
   numbers : AllByRecursion IsTextNumber order.ops
 
-order_takes : (key : List ℕ) (words : List (List ℕ)) (order : Order) → IsTrue (is_key key) → order_of key words ≡ Ok order → SpellsOrder key words order
-unfolding order_of
+order_takes : (key : List ℕ) (words : List (List ℕ)) (order : Order) → IsTrue (is_key key) → order_of_words key words ≡ Ok order → SpellsOrder key words order
+unfolding order_of_words
 order_takes key words order is e =
     let due = bind_ok (due_key key (first_word words)) (λ _. numbers_of (later_words words) >>= λ numbers. Ok (record { key = key; ops = numbers })) order e in
     let numbers = bind_ok (numbers_of (later_words words)) (λ numbers. Ok (record { key = key; ops = numbers })) order due.2 in
@@ -84,13 +82,12 @@ order_takes key words order is e =
     (record { row = ap (λ (ws : List (List ℕ)). codes "order" ∷ ws) row; same = refl; numbers = n.1 })
 
 order_line_takes : Takes order_lines order_row FitsKeys AreKeys
-order_line_takes keys line order are due e =
-    let parts = closed_ok line.ended (keyword (codes "order") line.keyword >>= λ _. order_of (first_word keys) line.words) order e in
-    let word = bind_ok (keyword (codes "order") line.keyword) (λ _. order_of (first_word keys) line.words) order parts.1 in
-    let spells = order_takes (first_word keys) line.words order (first_is_key keys are due) word.2 in
+order_line_takes [] word words order are due e = absurd cc
+order_line_takes (key ∷ keys) word words order are due e =
+    let kept = bind_ok (keyword (codes "order") word) (λ _. order_of_words key words) order e in
+    let spells = order_takes key words order are.0 kept.2 in
     record {
-      row = ap (λ (w : List ℕ). w ∷ line.words) (keyword_takes (codes "order") line.keyword word.0 word.1) ∙ spells.row;
-      ended = parts.0;
+      row = ap (λ (w : List ℕ). w ∷ words) (keyword_takes (codes "order") word kept.0 kept.1) ∙ spells.row;
       fits = record { there = due; key = spells.same; numbers = spells.numbers };
     }
 
@@ -112,11 +109,17 @@ numbers_taken keys (order ∷ orders) fits = (fits.0.numbers, numbers_taken (lat
 
 -- ---- an order is read again
 
-pub order_again : (keys : List (List ℕ)) (order : Order) → FitsKeys keys order → (has_key keys ≡ true) × (order_in (first_word keys) (line_of_row (order_row order)) ≡ Ok order)
-unfolding order_of
-order_again keys order fits =
-    let same : bytes_eq order.key (first_word keys) ≡ true = (bytes_eq-Decides order.key (first_word keys)).1 fits.key in
-    (fits.there, rw (same, numbers_again order.ops fits.numbers, ← fits.key) refl)
+pub order_again : ReadsAgain order_lines order_row FitsKeys
+unfolding order_of_words
+order_again [] order fits = let there = fits.there in absurd cc
+order_again (key ∷ keys) order fits =
+    let same : bytes_eq order.key key ≡ true = (bytes_eq-Decides order.key key).1 fits.key in
+    (refl, rw (same, numbers_again order.ops fits.numbers, ← fits.key) refl)
+
+-- where no key is due, no order is
+pub no_key_due : (lines : List OpenLine) → is_next_due order_lines [] lines ≡ false
+no_key_due [] = refl
+no_key_due (line ∷ lines) = refl
 
 -- orders of keys in a row fit them
 pub orders_fit : (keys : List (List ℕ)) (orders : List Order) → map (λ (order : Order). order.key) orders ≡ keys → AllByRecursion (λ (order : Order). AllByRecursion IsTextNumber order.ops) orders

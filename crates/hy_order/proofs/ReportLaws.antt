@@ -1,5 +1,5 @@
 -- The two laws of the text of a report: what is read is spelled so, and what is spelled so is read.
-use Rattle.std.proofs.Common.{◌≡◌, ℕ, suc, ◌+◌, ◌^◌, ◌<◌, ◌≤◌, Bool, true, false, cond, ◌&&◌, eqb, IsTrue, List, [], ◌∷◌, ◌++◌, length, map, Option, Some, None, Result, Ok, Err, refl, sym, ap, subst, ◌∙◌, arith, length-append, append-nil}
+use Rattle.std.proofs.Common.{◌≡◌, ℕ, suc, ◌+◌, ◌-◌, ◌^◌, ◌<◌, ◌≤◌, Bool, true, false, cond, ◌&&◌, eqb, IsTrue, List, [], ◌∷◌, ◌++◌, length, map, Option, Some, None, Result, Ok, Err, refl, sym, ap, subst, ◌∙◌, arith, length-append, append-nil}
 use Rattle.std.specs.Prelude.{codes, IfOk}
 use Rattle.std.specs.List.{AllByRecursion, list_all}
 use Rattle.std.specs.Fmt.{decimal}
@@ -9,6 +9,7 @@ use Rattle.std.specs.declared.cmp.Ordering.TheVariants.{Less, Equal, Greater}
 use Rattle.std.specs.Ordering.{nat_cmp, match_ordering}
 use Rattle.std.proofs.lemmas.Bool.{and_from}
 use Rattle.std.proofs.lemmas.List.{length-map}
+use Rattle.hy_base.specs.declared.fault.Cause.TheVariants.{NoEnd}
 use Rattle.hy_base.specs.declared.fault.TextError.{TextError}
 use Rattle.hy_base.specs.declared.fault.TextError.TheVariants as errors
 use Rattle.hy_base.specs.declared.fault.TextFault.{TextFault}
@@ -31,6 +32,11 @@ use Rattle.hy_text.proofs.Printed.{is_word-decimal, is_word-key, is_word-value_w
 use Rattle.hy_text.proofs.Rows.{lines_of-text_of, text_of-lines_of}
 use Rattle.hy_base.proofs.Results.{bind_ok, ok_is}
 use Rattle.hy_text.proofs.Slots.{keyword_takes, end_takes, at_line_ok}
+use Rattle.hy_base.specs.declared.limits.TheConstants.{MAX_COUNT, MAX_N}
+use Rattle.hy_text.specs.Action.{IsTextAction}
+use Rattle.hy_text.specs.Clouds.{cloud_word}
+use Rattle.hy_text.specs.Phase.{phase_word}
+use Rattle.hy_text.specs.Stamp.{stamp_words}
 use Rattle.hy_order.specs.declared.held.Held.{Held}
 use Rattle.hy_order.specs.declared.operation.End.{End}
 use Rattle.hy_order.specs.declared.operation.End.TheVariants.{Replied, Pending}
@@ -39,27 +45,27 @@ use Rattle.hy_order.specs.declared.order.Order.{Order}
 use Rattle.hy_order.specs.declared.report.Report.{Report}
 use Rattle.hy_order.specs.History.{IsNumberedFrom}
 use Rattle.hy_order.specs.Keys.{insert_key, sorted_keys}
-use Rattle.hy_order.specs.OpenLine.{OpenLine, Rest, opened}
-use Rattle.hy_order.specs.Report.{operation_row, order_row, held_row, end_row, report_rows, report_text, stamp_words, action_words, reply_words, phase_word, end_words, cloud_word}
-use Rattle.hy_order.specs.ReportRanges.{IsReport, IsTextStamp, IsTextAction, IsTextReply, IsTextEnd, IsTextOperation, AreTextOperations, IsTextNumber, IsTextHeld, register_key, register_keys}
-use Rattle.hy_order.specs.ReportReading.{Before, counts_of, end_in, items_from, operation_lines, order_lines, held_lines, nothing_in, last_line, report_at, report_of}
-use Rattle.hy_order.proofs.CloudTable.{cloud_word_is}
-use Rattle.hy_order.proofs.Fronts.{is_next_due, no_key_due}
+use Rattle.hy_text.specs.Kind.{is_next_due, item_in, items_from, item_from, nothing_in}
+use Rattle.hy_text.specs.OpenLine.{OpenLine, Rest, opened}
+use Rattle.hy_order.specs.Report.{operation_row, order_row, held_row, end_row, report_rows, report_text, reply_words, end_words}
+use Rattle.hy_order.specs.ReportRanges.{IsReport, IsTextStamp, IsTextReply, IsTextEnd, IsTextOperation, AreTextOperations, IsTextNumber, IsTextHeld, register_key, register_keys}
+use Rattle.hy_order.specs.ReportReading.{Before, Counts, counts_of_words, operation_lines, order_lines, held_lines, end_line, last_of, report_at, report_of}
 use Rattle.hy_order.proofs.HeldRows.{FitsAbove, helds_take, rising, ranges_taken, helds_fit, held_again}
-use Rattle.hy_order.proofs.LineGroups.{closed_ok, rows_in, all_ended, state_after, line_of_row, items_again}
-use Rattle.hy_order.proofs.OperationRows.{FitsBehind, operations_take, operations_from_fits, operations_fit, operation_again}
-use Rattle.hy_order.proofs.OrderRows.{FitsKeys, AreKeys, orders_take, keys_taken, numbers_taken, orders_fit, order_again}
-use Rattle.hy_order.proofs.WordRows.{number_word}
+use Rattle.hy_text.proofs.ItemRows.{rows_in, all_ended, line_of_row, lines_written, lines_written-rows, text_of-rows, item_ok, state_after, items_again, none_left}
+use Rattle.hy_order.proofs.OperationRows.{FitsAfter, operations_take, operations_from_fits, operations_fit, operation_again}
+use Rattle.hy_order.proofs.OrderRows.{FitsKeys, AreKeys, no_key_due, orders_take, keys_taken, numbers_taken, orders_fit, order_again}
+use Rattle.hy_text.proofs.CloudWords.{is_word-clouds}
+use Rattle.hy_text.proofs.Groups.{number_first, phase_again, stamp_is_row, action_is_row}
 
 -- ---- the last line
 
-counts_take : (ops orders : ℕ) (words : List (List ℕ)) (u : Unit {0}) → ops < 2 ^ 64 → orders < 2 ^ 64 → counts_of ops orders words ≡ Ok u → words ≡ decimal ops ∷ decimal orders ∷ []
-unfolding counts_of
+counts_take : (ops orders : ℕ) (words : List (List ℕ)) (u : Unit {0}) → ops < 2 ^ 64 → orders < 2 ^ 64 → counts_of_words ops orders words ≡ Ok u → words ≡ decimal ops ∷ decimal orders ∷ []
+unfolding counts_of_words
 counts_take ops orders words u few_ops few_orders e =
     let one = bind_ok (number_of ops ops (first_word words)) (λ _. number_of orders orders (first_word (later_words words)) >>= λ _. end_of (later_words (later_words words))) u e in
     let two = bind_ok (number_of orders orders (first_word (later_words words))) (λ _. end_of (later_words (later_words words))) u one.2 in
-    let a = number_word ops ops words one.0 few_ops one.1 in
-    let b = number_word orders orders (later_words words) two.0 few_orders two.1 in
+    let a = number_first ops ops words one.0 few_ops one.1 in
+    let b = number_first orders orders (later_words words) two.0 few_orders two.1 in
     let same_ops : one.0 ≡ ops = omega (arith, a.low_end, a.high_end) in
     let same_orders : two.0 ≡ orders = omega (arith, b.low_end, b.high_end) in
     a.row ∙ ap (λ (n : ℕ). decimal n ∷ later_words words) same_ops
@@ -70,27 +76,26 @@ record IsLast (ops orders : ℕ) (lines : List OpenLine) : Type 0 where
   rows : rows_in lines ≡ (codes "end" ∷ decimal ops ∷ decimal orders ∷ []) ∷ []
   ended : all_ended lines ≡ true
 
-none_left : (number : ℕ) (lines : List OpenLine) (u : Unit {0}) → nothing_in number lines ≡ Ok u → lines ≡ []
-none_left number [] u e = refl
-none_left number (line ∷ lines) u e = absurd cc
-
-last_take : (ops orders number : ℕ) (lines : List OpenLine) (u : Unit {0}) → ops < 2 ^ 64 → orders < 2 ^ 64 → last_line ops orders number lines ≡ Ok u → IsLast ops orders lines
-last_take ops orders number [] u few_ops few_orders e = absurd cc
-last_take ops orders number (line ∷ lines) u few_ops few_orders e =
-    let here = bind_ok (at_line number (end_in ops orders line)) (λ _. nothing_in (next_number number) lines) u e in
-    let parts = closed_ok line.ended (keyword (codes "end") line.keyword >>= λ _. counts_of ops orders line.words) here.0 (at_line_ok number (end_in ops orders line) here.0 here.1) in
-    let word = bind_ok (keyword (codes "end") line.keyword) (λ _. counts_of ops orders line.words) here.0 parts.1 in
-    let row : line.keyword ∷ line.words ≡ codes "end" ∷ decimal ops ∷ decimal orders ∷ [] =
+last_take : (counts : Counts) (number : ℕ) (lines : List OpenLine) (u : Unit {0}) → counts.operations < 2 ^ 64 → counts.orders < 2 ^ 64 → last_of counts number lines ≡ Ok u → IsLast counts.operations counts.orders lines
+last_take counts number [] u few_ops few_orders e = absurd cc
+last_take counts number (line ∷ lines) u few_ops few_orders e =
+    let last = bind_ok (item_from NoEnd end_line counts number (line ∷ lines)) (λ last. nothing_in last.1.number last.1.lines) u e in
+    let here = bind_ok (at_line number (item_in end_line counts line)) (λ v. Ok (v, record { number = next_number number; lines = lines })) last.0 last.1 in
+    let parts = item_ok end_line counts line here.0 (at_line_ok number (item_in end_line counts line) here.0 here.1) in
+    let word = bind_ok (keyword (codes "end") line.keyword) (λ _. counts_of_words counts.operations counts.orders line.words) here.0 parts.1 in
+    let row : line.keyword ∷ line.words ≡ codes "end" ∷ decimal counts.operations ∷ decimal counts.orders ∷ [] =
     ap (λ (w : List ℕ). w ∷ line.words) (keyword_takes (codes "end") line.keyword word.0 word.1)
-    ∙ ap (λ (ws : List (List ℕ)). codes "end" ∷ ws) (counts_take ops orders line.words here.0 few_ops few_orders word.2) in
-    let none = none_left (next_number number) lines u here.2 in
+    ∙ ap (λ (ws : List (List ℕ)). codes "end" ∷ ws) (counts_take counts.operations counts.orders line.words here.0 few_ops few_orders word.2) in
+    let rest : Rest = record { number = next_number number; lines = lines } in
+    let left : lines ≡ last.0.1.lines = ap (λ (x : Unit {0} × Rest). x.1.lines) (ok_is (here.0, rest) last.0 here.2) in
+    let none : lines ≡ [] = left ∙ none_left last.0.1.number last.0.1.lines u last.2 in
     record {
-      rows = ap (λ (row : List (List ℕ)). row ∷ rows_in lines) row ∙ ap (λ (ls : List OpenLine). (codes "end" ∷ decimal ops ∷ decimal orders ∷ []) ∷ rows_in ls) none;
+      rows = ap (λ (row : List (List ℕ)). row ∷ rows_in lines) row ∙ ap (λ (ls : List OpenLine). (codes "end" ∷ decimal counts.operations ∷ decimal counts.orders ∷ []) ∷ rows_in ls) none;
       ended = and_from line.ended (all_ended lines) parts.0 (ap all_ended none);
     }
 
-last_again : (ops orders number : ℕ) → ops < 2 ^ 64 → orders < 2 ^ 64 → last_line ops orders number (line_of_row (codes "end" ∷ decimal ops ∷ decimal orders ∷ []) ∷ []) ≡ Ok tt
-unfolding counts_of
+last_again : (ops orders number : ℕ) → ops < 2 ^ 64 → orders < 2 ^ 64 → last_of (record { operations = ops; orders = orders }) number (line_of_row (codes "end" ∷ decimal ops ∷ decimal orders ∷ []) ∷ []) ≡ Ok tt
+unfolding counts_of_words
 last_again ops orders number few_ops few_orders =
     let same_ops : ops ≤ ops = omega arith in
     let same_orders : orders ≤ orders = omega arith in
@@ -148,44 +153,15 @@ register_keys-length [] = omega arith
 register_keys-length (op ∷ ops) = with_key-length (register_key op.action) op ops refl (register_keys-length ops)
 
 -- numbered operations in range are no more than there are numbers
-numbered-length : (number step : ℕ) (ops : List Operation) → IsNumberedFrom (number + 1) ops → AreTextOperations step ops → number ≤ 4294967295 → number + length ops ≤ 4294967295
+numbered-length : (number step : ℕ) (ops : List Operation) → IsNumberedFrom (number + 1) ops → AreTextOperations step ops → number ≤ MAX_COUNT → number + length ops ≤ MAX_COUNT
 numbered-length number step [] numbered range within = omega arith
 numbered-length number step (op ∷ ops) numbered range within =
     let same : op.number ≡ number + 1 = numbered.0 in
-    let high : op.number ≤ 4294967295 = range.0.number in
+    let high : op.number ≤ MAX_COUNT = range.0.number in
     let more = numbered-length (number + 1) op.invoked ops numbered.1 range.1 (omega arith) in
     omega arith
 
--- ---- lines and their rows
-
-opened_words : (bytes : List ℕ) → first_word (words_of bytes) ∷ later_words (words_of bytes) ≡ words_of bytes
-opened_words bytes =
-    let some = pieces_at-some 32 bytes in
-    subst (λ (ws : List (List ℕ)). first_word ws ∷ later_words ws ≡ ws) (sym some.2) refl
-
-abbrev last_lines : List ℕ → Bool → List Line
-last_lines last empty = cond empty [] (record { words = words_of last; ended = false } ∷ [])
-
-opened_last : (last : List ℕ) (empty : Bool) → rows_in (map opened (last_lines last empty)) ≡ map (λ (line : Line). line.words) (last_lines last empty)
-opened_last last true = refl
-opened_last last false = ap (λ (row : List (List ℕ)). row ∷ []) (opened_words last)
-
-opened_pieces : (pieces : List (List ℕ)) → rows_in (map opened (lines_of_pieces pieces)) ≡ map (λ (line : Line). line.words) (lines_of_pieces pieces)
-opened_pieces [] = refl
-opened_pieces (last ∷ []) = opened_last last (eqb (length last) 0)
-opened_pieces (piece ∷ next ∷ more) =
-    ap (λ (row : List (List ℕ)). row ∷ rows_in (map opened (lines_of_pieces (next ∷ more)))) (opened_words piece)
-    ∙ ap (λ (rows : List (List (List ℕ))). words_of piece ∷ rows) (opened_pieces (next ∷ more))
-
-rows_of_text : (text : List ℕ) → rows_in (map opened (lines_of text)) ≡ map (λ (line : Line). line.words) (lines_of text)
-unfolding lines_of
-rows_of_text text = opened_pieces (pieces_at 10 text)
-
-ends_of : (lines : List Line) → all_ended (map opened lines) ≡ list_all (λ (line : Line). line.ended) lines
-ends_of [] = refl
-ends_of (line ∷ lines) = ap (λ (b : Bool). line.ended && b) (ends_of lines)
-
--- where the last line stands behind the orders, no key is due any more
+-- where the last line stands after the orders, no key is due any more
 no_keys_left : (keys : List (List ℕ)) (lines : List OpenLine) (rows : List (List (List ℕ))) (row : List (List ℕ)) → rows_in lines ≡ rows ++ row ∷ [] → is_next_due order_lines keys lines ≡ false → keys ≡ []
 no_keys_left keys [] [] row e other = absurd cc
 no_keys_left keys [] (first ∷ rows) row e other = absurd cc
@@ -205,27 +181,28 @@ unfolding report_at
 report_lines_take number lines report e =
     let history = bind_ok (items_from operation_lines (record { number = 0; step = 0 }) number lines) _ report e in
     let ops : List Operation = history.0.0 in
-    let behind_ops : Rest = history.0.1 in
+    let after_ops : Rest = history.0.1 in
     let keys : List (List ℕ) = sorted_keys (register_keys ops) in
-    let orders = bind_ok (items_from order_lines keys behind_ops.number behind_ops.lines) _ report history.2 in
-    let behind_orders : Rest = orders.0.1 in
-    let held = bind_ok (items_from held_lines None behind_orders.number behind_orders.lines) _ report orders.2 in
-    let behind_held : Rest = held.0.1 in
-    let last = bind_ok (last_line (length ops) (length orders.0.0) behind_held.number behind_held.lines) (λ _. Ok (record { history = ops; orders = orders.0.0; held = held.0.0 })) report held.2 in
+    let orders = bind_ok (items_from order_lines keys after_ops.number after_ops.lines) _ report history.2 in
+    let after_orders : Rest = orders.0.1 in
+    let held = bind_ok (items_from held_lines None after_orders.number after_orders.lines) _ report orders.2 in
+    let after_held : Rest = held.0.1 in
+    let counts : Counts = record { operations = length ops; orders = length orders.0.0 } in
+    let last = bind_ok (last_of counts after_held.number after_held.lines) (λ _. Ok (record { history = ops; orders = orders.0.0; held = held.0.0 })) report held.2 in
     let h = operations_take number lines history.0 history.1 in
     let all = operations_from_fits (record { number = 0; step = 0 }) ops h.fits in
     let are = sorted_keys_are (register_keys ops) (register_keys_are 0 ops all.range) in
-    let o = orders_take keys behind_ops.number behind_ops.lines orders.0 are orders.1 in
-    let c = helds_take behind_orders.number behind_orders.lines held.0 held.1 in
-    let few_ops : length ops ≤ 4294967295 = omega (arith, numbered-length 0 0 ops all.numbered all.range (omega arith)) in
+    let o = orders_take keys after_ops.number after_ops.lines orders.0 are orders.1 in
+    let c = helds_take after_orders.number after_orders.lines held.0 held.1 in
+    let few_ops : length ops ≤ MAX_COUNT = omega (arith, numbered-length 0 0 ops all.numbered all.range (omega arith)) in
     let taken = keys_taken keys orders.0.0 o.fits in
     let sum : length keys ≡ length (map (λ (order : Order). order.key) orders.0.0) + length (state_after order_lines keys orders.0.0) = ap length taken ∙ length-append (map (λ (order : Order). order.key) orders.0.0) (state_after order_lines keys orders.0.0) in
-    let few_orders : length orders.0.0 ≤ 4294967295 =
+    let few_orders : length orders.0.0 ≤ MAX_COUNT =
     omega (arith, sum, length-map orders.0.0 (λ (order : Order). order.key), sorted_keys-length (register_keys ops), register_keys-length ops) in
-    let l = last_take (length ops) (length orders.0.0) behind_held.number behind_held.lines last.0 (omega (arith, few_ops)) (omega (arith, few_orders)) last.1 in
+    let l = last_take counts after_held.number after_held.lines last.0 (omega (arith, few_ops)) (omega (arith, few_orders)) last.1 in
     let end : List (List ℕ) = codes "end" ∷ decimal (length ops) ∷ decimal (length orders.0.0) ∷ [] in
-    let held_rows : rows_in behind_orders.lines ≡ map held_row held.0.0 ++ end ∷ [] = c.rows ∙ ap (λ (rows : List (List (List ℕ))). map held_row held.0.0 ++ rows) l.rows in
-    let none = no_keys_left (state_after order_lines keys orders.0.0) behind_orders.lines (map held_row held.0.0) end held_rows o.other in
+    let held_rows : rows_in after_orders.lines ≡ map held_row held.0.0 ++ end ∷ [] = c.rows ∙ ap (λ (rows : List (List (List ℕ))). map held_row held.0.0 ++ rows) l.rows in
+    let none = no_keys_left (state_after order_lines keys orders.0.0) after_orders.lines (map held_row held.0.0) end held_rows o.other in
     let keys_are : map (λ (order : Order). order.key) orders.0.0 ≡ keys =
     sym (taken ∙ ap (λ (ks : List (List ℕ)). map (λ (order : Order). order.key) orders.0.0 ++ ks) none ∙ append-nil (map (λ (order : Order). order.key) orders.0.0)) in
     subst (AreReportLines lines) (ok_is (record { history = ops; orders = orders.0.0; held = held.0.0 }) report last.2)
@@ -247,23 +224,12 @@ pub report_takes : (text : List ℕ) (report : Report) → report_of text ≡ Ok
 unfolding report_of
 report_takes text report e =
     let all = report_lines_take 1 (map opened (lines_of text)) report e in
-    let ended : list_all (λ (line : Line). line.ended) (lines_of text) ≡ true = sym (ends_of (lines_of text)) ∙ all.ended in
-    (all.fits, sym (text_of-lines_of text ended) ∙ ap text_of (sym (rows_of_text text) ∙ all.rows))
+    (all.fits, text_of-rows text (report_rows report) all.rows all.ended)
 
 -- ---- each line of a report is a row
 
-stamp_is_row : (stamp : Timestamp) (rest : List (List ℕ)) → IsTextStamp stamp → list_all is_word rest ≡ true → list_all is_word (stamp_words stamp ++ rest) ≡ true
-stamp_is_row stamp rest fits more =
-    rw (is_word-decimal stamp.sn (omega (arith, fits.number)), is_word-decimal stamp.cid (omega (arith, fits.client)), more) refl
-
-action_is_row : (action : Action) (rest : List (List ℕ)) → IsTextAction action → list_all is_word rest ≡ true → list_all is_word (action_words action ++ rest) ≡ true
-action_is_row (asked.Put key value) rest fits more = rw (is_word-key key fits.0, is_word-value_word value, more) refl
-action_is_row (asked.Get key) rest fits more = rw (is_word-key key fits, more) refl
-action_is_row (asked.Delete key) rest fits more = rw (is_word-key key fits, more) refl
-action_is_row (asked.Collect key) rest fits more = rw (is_word-key key fits, more) refl
-
 stamps_are_words : (stamp : Timestamp) → IsTextStamp stamp → list_all is_word (stamp_words stamp) ≡ true
-stamps_are_words stamp fits = rw (is_word-decimal stamp.sn (omega (arith, fits.number)), is_word-decimal stamp.cid (omega (arith, fits.client))) refl
+stamps_are_words stamp fits = rw (is_word-decimal stamp.sn (omega (arith, fits.number_high)), is_word-decimal stamp.cid (omega (arith, fits.client_high))) refl
 
 reply_is_row : (reply : Reply) → IsTextReply reply → list_all is_word (reply_words reply) ≡ true
 reply_is_row (told.Done stamp) fits = stamps_are_words stamp fits
@@ -272,20 +238,9 @@ reply_is_row (told.Value value stamp) fits = rw (is_word-value_word value) (stam
 reply_is_row (told.Absent stamp) fits = stamps_are_words stamp fits
 reply_is_row (told.Collected count) fits = rw (is_word-decimal count (omega (arith, fits))) refl
 
-phase_is_word : (at : Phase) → is_word (phase_word at) ≡ true
-phase_is_word phase.Read = refl
-phase_is_word phase.Store = refl
-phase_is_word phase.Update = refl
-phase_is_word phase.Fetch = refl
-phase_is_word phase.Watch = refl
-phase_is_word phase.Reread = refl
-phase_is_word phase.Olds = refl
-phase_is_word phase.Drop = refl
-phase_is_word phase.Forget = refl
-
 end_is_row : (invoked : ℕ) (end : End) → IsTextEnd invoked end → list_all is_word (end_words end) ≡ true
 end_is_row invoked (Replied at reply) fits = rw (is_word-decimal at (omega (arith, fits.1))) (reply_is_row reply fits.2)
-end_is_row invoked (Pending at have need) fits = rw (phase_is_word at, is_word-decimal have (omega (arith, fits.0)), is_word-decimal need (omega (arith, fits.1))) refl
+end_is_row invoked (Pending at have need) fits = rw ((phase_again at).1, is_word-decimal have (omega (arith, fits.0)), is_word-decimal need (omega (arith, fits.1))) refl
 
 operation_is_row : (step : ℕ) (op : Operation) → IsTextOperation step op → is_row (operation_row op) ≡ true
 operation_is_row step op fits =
@@ -310,18 +265,11 @@ orders_are_rows (order ∷ orders) rest are numbers more =
 helds_are_rows : (helds : List Held) (rest : List (List (List ℕ))) → AllByRecursion IsTextHeld helds → list_all is_row rest ≡ true → list_all is_row (map held_row helds ++ rest) ≡ true
 helds_are_rows [] rest fits more = more
 helds_are_rows (held ∷ helds) rest fits more =
-    let clouds : list_all is_word (cloud_word (clouds_of held.clouds) ∷ []) ≡ true = rw (cloud_word_is held.clouds fits.0.clouds).word refl in
-    let row : is_row (held_row held) ≡ true = rw (is_word-key held.key fits.0.key) (stamp_is_row held.stamp (cloud_word (clouds_of held.clouds) ∷ []) fits.0.stamp clouds) in
+    let clouds : list_all is_word (cloud_word (clouds_of held.clouds) ∷ []) ≡ true = rw (is_word-clouds (MAX_N - 1) held.clouds (omega arith) fits.0.clouds).0 refl in
+    let row : is_row (held_row held) ≡ true = rw (is_word-key held.key fits.0.key) (stamp_is_row 0 MAX_COUNT held.stamp (cloud_word (clouds_of held.clouds) ∷ []) (omega arith) fits.0.stamp clouds) in
     and_from (is_row (held_row held)) _ row (helds_are_rows helds rest fits.1 more)
 
 -- ---- the text of a report is read
-
-abbrev lines_written : List (List (List ℕ)) → List OpenLine
-lines_written rows = map opened (map ended_line rows)
-
-lines_written-rows : {A : Type 0} (row_of : A → List (List ℕ)) (items : List A) (rows : List (List (List ℕ))) → lines_written (map row_of items ++ rows) ≡ map (λ item. line_of_row (row_of item)) items ++ lines_written rows
-lines_written-rows row_of [] rows = refl
-lines_written-rows row_of (item ∷ items) rows = ap (λ (lines : List OpenLine). line_of_row (row_of item) ∷ lines) (lines_written-rows row_of items rows)
 
 abbrev held_written : List Held → List OpenLine → List OpenLine
 held_written helds left = map (λ (held : Held). line_of_row (held_row held)) helds ++ left
@@ -329,13 +277,13 @@ held_written helds left = map (λ (held : Held). line_of_row (held_row held)) he
 abbrev orders_written : List Order → List OpenLine → List OpenLine
 orders_written orders left = map (λ (order : Order). line_of_row (order_row order)) orders ++ left
 
-abbrev end_line : ℕ → ℕ → List OpenLine
-end_line ops orders = line_of_row (codes "end" ∷ decimal ops ∷ decimal orders ∷ []) ∷ []
+abbrev end_written : ℕ → ℕ → List OpenLine
+end_written ops orders = line_of_row (codes "end" ∷ decimal ops ∷ decimal orders ∷ []) ∷ []
 
-no_operation_behind : (before : Before) (orders : List Order) (helds : List Held) (a b : ℕ) → is_next_due operation_lines before (orders_written orders (held_written helds (end_line a b))) ≡ false
-no_operation_behind before [] [] a b = refl
-no_operation_behind before [] (held ∷ helds) a b = refl
-no_operation_behind before (order ∷ orders) helds a b = refl
+no_operation_due : (before : Before) (orders : List Order) (helds : List Held) (a b : ℕ) → is_next_due operation_lines before (orders_written orders (held_written helds (end_written a b))) ≡ false
+no_operation_due before [] [] a b = refl
+no_operation_due before [] (held ∷ helds) a b = refl
+no_operation_due before (order ∷ orders) helds a b = refl
 
 report_lines_again : (report : Report) → IsReport report → report_at (record { number = 1; lines = lines_written (report_rows report) }) ≡ Ok report
 unfolding report_at
@@ -343,16 +291,16 @@ report_lines_again report is =
     let ops : List Operation = report.history in
     let keys : List (List ℕ) = sorted_keys (register_keys ops) in
     let start : Before = record { number = 0; step = 0 } in
-    let few_ops : length ops ≤ 4294967295 = omega (arith, numbered-length 0 0 ops is.history.numbered is.operations (omega arith)) in
-    let few_orders : length report.orders ≤ 4294967295 =
+    let few_ops : length ops ≤ MAX_COUNT = omega (arith, numbered-length 0 0 ops is.history.numbered is.operations (omega arith)) in
+    let few_orders : length report.orders ≤ MAX_COUNT =
     omega (arith, ap length is.keys, length-map report.orders (λ (order : Order). order.key), sorted_keys-length (register_keys ops), register_keys-length ops) in
-    let end : List OpenLine = end_line (length ops) (length report.orders) in
+    let end : List OpenLine = end_written (length ops) (length report.orders) in
     let left_orders : List OpenLine = held_written report.held end in
     let left_ops : List OpenLine = orders_written report.orders left_orders in
     let fit_orders = orders_fit keys report.orders is.keys is.orders in
     let no_key : is_next_due order_lines (state_after order_lines keys report.orders) left_orders ≡ false = rw fit_orders.1 (no_key_due left_orders) in
-    let h = items_again operation_lines operation_row FitsBehind operation_again start 1 ops left_ops (operations_fit start ops is.history.numbered is.history.ends is.operations)
-    (no_operation_behind (state_after operation_lines start ops) report.orders report.held (length ops) (length report.orders)) in
+    let h = items_again operation_lines operation_row FitsAfter operation_again start 1 ops left_ops (operations_fit start ops is.history.numbered is.history.ends is.operations)
+    (no_operation_due (state_after operation_lines start ops) report.orders report.held (length ops) (length report.orders)) in
     let o = items_again order_lines order_row FitsKeys order_again keys h.0 report.orders left_orders fit_orders.0 no_key in
     let c = items_again held_lines held_row FitsAbove held_again None o.0 report.held end (helds_fit report.held is.copies is.rising) refl in
     let l = last_again (length ops) (length report.orders) c.0 (omega (arith, few_ops)) (omega (arith, few_orders)) in
@@ -367,8 +315,8 @@ pub report_again : (report : Report) → IsReport report → report_of (report_t
 unfolding report_of
 report_again report is =
     let are = subst AreKeys (sym is.keys) (sorted_keys_are (register_keys report.history) (register_keys_are 0 report.history is.operations)) in
-    let few_ops : length report.history ≤ 4294967295 = omega (arith, numbered-length 0 0 report.history is.history.numbered is.operations (omega arith)) in
-    let few_orders : length report.orders ≤ 4294967295 =
+    let few_ops : length report.history ≤ MAX_COUNT = omega (arith, numbered-length 0 0 report.history is.history.numbered is.operations (omega arith)) in
+    let few_orders : length report.orders ≤ MAX_COUNT =
     omega (arith, ap length is.keys, length-map report.orders (λ (order : Order). order.key), sorted_keys-length (register_keys report.history), register_keys-length report.history) in
     let end : list_all is_row (end_row report ∷ []) ≡ true = rw (is_word-decimal (length report.history) (omega (arith, few_ops)), is_word-decimal (length report.orders) (omega (arith, few_orders))) refl in
     let rows = lines_of-text_of (report_rows report)

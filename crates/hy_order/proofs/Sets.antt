@@ -10,7 +10,7 @@ use Rattle.std.specs.Ordering.{is_eq, nat_cmp}
 use Rattle.hy_order.specs.declared.operation.Operation.{Operation}
 use Rattle.hy_order.specs.Checking.{unlisted_number, IsSetOf}
 use Rattle.hy_order.specs.Linearization.{is_of_key, is_finished}
-use Rattle.hy_order.specs.Violation.{is_listed, missing_number, repeated_behind}
+use Rattle.hy_order.specs.Violation.{is_listed, missing_number, repeated_after}
 
 -- a number that ties with another is that number
 is_eq-nat_cmp : (a b : ℕ) → is_eq (nat_cmp a b) ≡ (a == b)
@@ -80,9 +80,9 @@ module _ (numbers : List ℕ) (place : ℕ) (within : place < length numbers) wh
   IsSetOf-next old new is update other =
       IsSetOf-more (take place numbers) number old new is update other ∙ ap (λ numbers. is_listed numbers other) (sym (take_more numbers place 0 within))
 
-  -- behind it, the first repeated number is the same where it does not stand earlier
-  pub repeated_behind-next : is_listed (take place numbers) number ≡ false → repeated_behind (take (place + 1) numbers) (drop (place + 1) numbers) ≡ repeated_behind (take place numbers) (drop place numbers)
-  repeated_behind-next new =
-      ap (λ earlier. repeated_behind earlier (drop (place + 1) numbers)) (take_more numbers place 0 within)
-      ∙ sym (cond-false (is_listed (take place numbers) number) (Some number) (repeated_behind (take place numbers ++ number ∷ []) (drop (place + 1) numbers)) new)
-      ∙ ap (repeated_behind (take place numbers)) (sym (drop_more numbers place 0 within))
+  -- after it, the first repeated number is the same where it does not stand earlier
+  pub repeated_after-next : is_listed (take place numbers) number ≡ false → repeated_after (take (place + 1) numbers) (drop (place + 1) numbers) ≡ repeated_after (take place numbers) (drop place numbers)
+  repeated_after-next new =
+      ap (λ earlier. repeated_after earlier (drop (place + 1) numbers)) (take_more numbers place 0 within)
+      ∙ sym (cond-false (is_listed (take place numbers) number) (Some number) (repeated_after (take place numbers ++ number ∷ []) (drop (place + 1) numbers)) new)
+      ∙ ap (repeated_after (take place numbers)) (sym (drop_more numbers place 0 within))

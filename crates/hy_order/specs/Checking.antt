@@ -19,7 +19,7 @@ abbrev pub unlisted_number : (ℕ → Bool) → List Operation → Option ℕ
 unlisted_number is_among ops =
     option_map (λ (op : Operation). op.number) (find (λ op. is_finished op.end && not (is_among op.number)) ops)
 
--- the operations from the first on behind which one stands that returned before it was invoked
+-- the operations from the first on after which one stands that returned before it was invoked
 abbrev pub early_part : List Operation → List Operation
 early_part [] = []
 early_part (op ∷ later) =

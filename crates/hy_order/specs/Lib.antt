@@ -5,7 +5,6 @@ pub mod Report
 pub mod Violation
 pub mod Checking
 pub mod Index
-pub mod OpenLine
 pub mod WordReaders
 pub mod ReportRanges
 pub mod ReportReading

@@ -68,7 +68,7 @@ abbrev pub ReadsRegister : Option (List ℕ) → List Operation → Type 0
 ReadsRegister held [] = Unit {0}
 ReadsRegister held (op ∷ later) = TellsRegister held op.end × ReadsRegister (register_after op.action held) later
 
--- no operation stands behind one that was invoked after it returned
+-- no operation stands after one that was invoked after it returned
 abbrev pub RespectsRealTime : List Operation → Type 0
 RespectsRealTime [] = Unit {0}
 RespectsRealTime (op ∷ later) = AllByRecursion (λ next. returned_before op.invoked next.end ≡ false) later × RespectsRealTime later

@@ -1,16 +1,14 @@
 -- The text of a report: rows of words, line by line.
 use Rattle.std.specs.Prelude.{ℕ, List, [], ◌∷◌, ◌++◌, length, map, codes}
-use Rattle.std.specs.List.{join_with_byte}
 use Rattle.std.specs.Fmt.{decimal}
-use Rattle.hy_record.specs.Stamp.{Timestamp}
-use Rattle.hy_record.specs.declared.action.Action.{Action}
-use Rattle.hy_record.specs.declared.action.Action.TheVariants as asked
 use Rattle.hy_record.specs.declared.action.Reply.{Reply}
 use Rattle.hy_record.specs.declared.action.Reply.TheVariants as told
-use Rattle.hy_record.specs.declared.action.Phase.{Phase}
-use Rattle.hy_record.specs.declared.action.Phase.TheVariants as phase
+use Rattle.hy_text.specs.Action.{action_words}
+use Rattle.hy_text.specs.Clouds.{cloud_word}
 use Rattle.hy_text.specs.Line.{text_of}
+use Rattle.hy_text.specs.Phase.{phase_word}
 use Rattle.hy_text.specs.Slot.{value_word}
+use Rattle.hy_text.specs.Stamp.{stamp_words}
 use Rattle.hy_order.specs.declared.held.Held.{Held}
 use Rattle.hy_order.specs.declared.operation.End.{End}
 use Rattle.hy_order.specs.declared.operation.End.TheVariants.{Replied, Pending}
@@ -19,17 +17,6 @@ use Rattle.hy_order.specs.declared.order.Order.{Order}
 use Rattle.hy_order.specs.declared.report.Report.{Report}
 use Rattle.hy_record.specs.Clouds.{clouds_of}
 
--- the words of a timestamp
-abbrev pub stamp_words : Timestamp → List (List ℕ)
-stamp_words stamp = decimal stamp.sn ∷ decimal stamp.cid ∷ []
-
--- the words of an action
-abbrev pub action_words : Action → List (List ℕ)
-action_words (asked.Put key value) = codes "put" ∷ key ∷ value_word value ∷ []
-action_words (asked.Get key) = codes "get" ∷ key ∷ []
-action_words (asked.Delete key) = codes "delete" ∷ key ∷ []
-action_words (asked.Collect key) = codes "collect" ∷ key ∷ []
-
 -- the words of a reply
 abbrev pub reply_words : Reply → List (List ℕ)
 reply_words (told.Done stamp) = codes "done" ∷ stamp_words stamp
@@ -37,18 +24,6 @@ reply_words (told.Exhausted stamp) = codes "exhausted" ∷ stamp_words stamp
 reply_words (told.Value value stamp) = codes "value" ∷ value_word value ∷ stamp_words stamp
 reply_words (told.Absent stamp) = codes "none" ∷ stamp_words stamp
 reply_words (told.Collected count) = codes "collected" ∷ decimal count ∷ []
-
--- the word of a phase
-abbrev pub phase_word : Phase → List ℕ
-phase_word phase.Read = codes "read"
-phase_word phase.Store = codes "store"
-phase_word phase.Update = codes "update"
-phase_word phase.Fetch = codes "fetch"
-phase_word phase.Watch = codes "watch"
-phase_word phase.Reread = codes "reread"
-phase_word phase.Olds = codes "olds"
-phase_word phase.Drop = codes "drop"
-phase_word phase.Forget = codes "forget"
 
 -- the words of an end: where it replied and what, or a dash, the phase, and what it has and needs
 abbrev pub end_words : End → List (List ℕ)
@@ -63,11 +38,6 @@ operation_row op =
 -- the line of an order
 abbrev pub order_row : Order → List (List ℕ)
 order_row order = codes "order" ∷ order.key ∷ map decimal order.ops
-
--- a list of clouds, with commas between; a dash for none
-abbrev pub cloud_word : List ℕ → List ℕ
-cloud_word [] = codes "-"
-cloud_word (cloud ∷ clouds) = join_with_byte 44 (map decimal (cloud ∷ clouds))
 
 -- the line of the retrievable copies of a key
 abbrev pub held_row : Held → List (List ℕ)

@@ -31,20 +31,20 @@ abbrev pub stranger_number : List Operation → List ℕ → List ℕ → Option
 stranger_number history key order = find (λ number. not (is_member key (operation_at history number))) order
 
 -- the first number that is among the earlier ones, to which each number is added when it is passed
-abbrev pub repeated_behind : List ℕ → List ℕ → Option ℕ
-repeated_behind earlier [] = None
-repeated_behind earlier (number ∷ later) =
-    if is_listed earlier number then Some number else repeated_behind (earlier ++ number ∷ []) later
+abbrev pub repeated_after : List ℕ → List ℕ → Option ℕ
+repeated_after earlier [] = None
+repeated_after earlier (number ∷ later) =
+    if is_listed earlier number then Some number else repeated_after (earlier ++ number ∷ []) later
 
 -- the first listed number that stands earlier too
 abbrev pub repeated_number : List ℕ → Option ℕ
-repeated_number order = repeated_behind [] order
+repeated_number order = repeated_after [] order
 
 -- the number of the first operation that returned before the step
 abbrev pub returned_number : ℕ → List Operation → Option ℕ
 returned_number step ops = option_map (λ (op : Operation). op.number) (find (λ op. returned_before step op.end) ops)
 
--- for the first operation behind which one stands that returned before it was invoked: the number of the first such one, and its own
+-- for the first operation after which one stands that returned before it was invoked: the number of the first such one, and its own
 abbrev pub early_numbers : List Operation → Option (ℕ × ℕ)
 early_numbers [] = None
 early_numbers (op ∷ later) =

@@ -1,8 +1,7 @@
 //! Whether an order of a key is a linearization, and where it first fails to be one.
 
-ghost use Rattle.std.specs.Prelude.{◌≡◌, ◌↔◌, ℕ, List, IfOk, None};
+ghost use Rattle.std.specs.Prelude.{◌≡◌, ◌↔◌, IfOk, None};
 ghost use Rattle.std.specs.List.{AllByRecursion};
-ghost use Rattle.hy_order.specs.declared.operation.Operation.{Operation};
 ghost use Rattle.hy_order.specs.Linearization.{IsLinearization, IsLinearized, IsReportLinearizable};
 ghost use Rattle.hy_order.specs.ReportRanges.{IsReport};
 ghost use Rattle.hy_order.specs.Violation.{first_violation, first_illegal};
@@ -58,11 +57,6 @@ fn first_illegal_among(
     }
     Ok(None)
 }
-
-/// An order has no violation exactly where it is a linearization.
-pub fn legal_exactly_for_linearizations()
-    ensures { (history : List Operation) (key order : List ℕ) → (first_violation history key order ≡ Verdict.Legal) ↔ IsLinearization history key order }
-{}
 
 /// The verdict on the numbers as an order of the key, by the index of the history.
 fn verdict_on(

@@ -7,7 +7,7 @@ ghost use Rattle.hy_order.specs.Index.{IsGrouped, operations_under};
 ghost use Rattle.hy_order.specs.Linearization.{is_of_key, operation_at};
 
 use crate::history::History;
-use crate::membership::key_of;
+use crate::membership::key_of_action;
 use crate::operation::Operation;
 use hy_base::NoMemory;
 use hy_record::Key;
@@ -76,7 +76,7 @@ fn grouped<'a>(
     Ok(by_key)
 }
 
-/// Adds the operation behind those of its key.
+/// Adds the operation after those of its key.
 fn add_operation<'a>(
     alloc: Global,
     by_key: &mut BTreeMap<Key, Vec<&'a Operation>>,
@@ -86,7 +86,7 @@ fn add_operation<'a>(
         ≡ operations_under by_key.old.entries key ++ filter (is_of_key key) (op.now ∷ [])) }
 {
     let ops = by_key
-        .entry(*key_of(&op.action))?
+        .entry(*key_of_action(&op.action))?
         .or_insert(Vec::new(alloc));
     ops.push(op)?;
     Ok(())

@@ -2,15 +2,18 @@
 #![tactic(auto)]
 
 mod checking;
-mod cursor;
+mod end_line;
 mod held;
+mod held_line;
 mod history;
 mod index;
+mod laws;
 mod listing;
 mod membership;
 mod operation;
 mod operation_line;
 mod order;
+mod order_line;
 mod reading;
 mod real_time;
 mod register;
@@ -19,12 +22,13 @@ mod slots;
 mod verdict;
 mod writing;
 
-pub use checking::{check, first_illegal, legal_exactly_for_linearizations};
+pub use checking::{check, first_illegal};
 pub use held::{Held, HeldList};
 pub use history::History;
+pub use laws::{legal_exactly_for_linearizations, reports_are_read_back};
 pub use operation::{End, Operation};
 pub use order::{Order, Orders};
-pub use reading::{read_report, reports_are_read_back};
+pub use reading::read_report;
 pub use report::{LAST_STEP, Report};
 pub use verdict::Verdict;
 pub use writing::write_report;

@@ -16,11 +16,11 @@ use hy_record::{Action, Key, Reply};
 pub(crate) fn is_of_key(op: &Operation, key: &Key) -> bool
     ensures { result ≡ is_of_key key.now op.now }
 {
-    key_of(&op.action) == key
+    key_of_action(&op.action) == key
 }
 
 /// The key that the action names.
-pub(crate) fn key_of(action: &Action) -> &Key
+pub(crate) fn key_of_action(action: &Action) -> &Key
     ensures { result.now ≡ key_of_action action.now }
 {
     match action {

@@ -3,12 +3,9 @@
 ghost use Rattle.std.specs.Prelude.{◌≡◌, IfOk, ◌≤◌};
 ghost use Rattle.hy_text.specs.Gives.{Gives, Takes, TakesExactly};
 ghost use Rattle.hy_order.specs.History.{is_phase_of};
-ghost use Rattle.hy_order.specs.ReportReading.{operation_of};
+ghost use Rattle.hy_order.specs.ReportReading.{operation_of_words};
 ghost use Rattle.hy_order.specs.WordReaders.{
-  phase_of,
   phase_word_of,
-  put_from,
-  action_from,
   write_reply_from,
   value_from,
   get_reply_from,
@@ -21,26 +18,81 @@ ghost use Rattle.hy_order.specs.WordReaders.{
 
 use crate::operation::{End, Operation};
 use crate::report::LAST_STEP;
-use crate::slots::{read_number_after, read_stamp};
-use hy_base::{Cause, MAX_TEXT_VALUE};
+use crate::slots::{read_any_stamp, read_number_after};
+use hy_base::{Cause, MAX_COUNT, MAX_TEXT_VALUE};
 use hy_record::{Action, Phase, Reply};
-use hy_text::{LineError, Words, read_key, read_number, read_u32, read_value};
+use hy_text::{
+    LineError, LineKind, Words, read_action, read_number, read_phase, read_u32, read_value,
+};
 use std::alloc::Global;
+use std::marker::Model;
 
-/// The operation that the words print which stand behind the keyword; the last number and the last step stand before.
-#[tactic(auto, unfolding(crate::specs::ReportReading::operation_of))]
-pub(crate) fn read_operation(
+/// The lines of operations, after the last one's number and step.
+#[derive(Drop)]
+pub(crate) struct OperationLines {
+    number: u32,
+    step: u64,
+}
+
+impl Model for OperationLines {
+    ghost use Rattle.std.specs.Prelude.{◌≤◌};
+    ghost use Rattle.hy_order.specs.ReportReading.{Before};
+    ghost use Rattle.hy_order.specs.declared.report.TheConstants.{LAST_STEP};
+
+    ghost Value = { Before };
+
+    ghost view = { λ lines. record { number = lines.number; step = lines.step } };
+
+    ghost invariant = { λ lines. lines.step ≤ LAST_STEP };
+}
+
+impl OperationLines {
+    /// The lines from the first on.
+    pub(crate) fn new() -> OperationLines
+        ensures { result ≡ record { number = 0; step = 0 } }
+    {
+        OperationLines { number: 0, step: 0 }
+    }
+}
+
+impl LineKind for OperationLines {
+    ghost use Rattle.hy_order.specs.ReportReading.{operation_lines};
+
+    type Item = Operation;
+
+    ghost kind = { operation_lines };
+
+    fn is_due(&self, keyword: &[u8]) -> bool {
+        keyword == b"op".as_slice()
+    }
+
+    fn read(
+        &mut self,
+        alloc: Global,
+        _keyword: &[u8],
+        words: &mut Words,
+    ) -> Result<Operation, LineError> {
+        let op = read_operation(alloc, self.number, self.step, words)?;
+        self.number = op.number;
+        self.step = op.invoked;
+        Ok(op)
+    }
+}
+
+/// The operation that the words after the keyword print; the last number and the last step stand before.
+#[tactic(auto, unfolding(crate::specs::ReportReading::operation_of_words))]
+fn read_operation(
     alloc: Global,
     last: u32,
     step: u64,
     words: &mut Words,
 ) -> Result<Operation, LineError>
     requires { step ≤ LAST_STEP }
-    ensures gives { Gives result (operation_of last step words.old) }
+    ensures gives { Gives result (operation_of_words last step words.old) }
     ensures range { IfOk result (λ op. op.invoked ≤ LAST_STEP) }
 {
     let number = read_number_after(last, words.next_word())?;
-    let client = read_u32(words.next_word(), 1, u32::MAX)?;
+    let client = read_u32(words.next_word(), 1, MAX_COUNT)?;
     let action = read_action(alloc, words)?;
     let invoked = read_number(words.next_word(), step + 1, LAST_STEP)?;
     let end = read_end(alloc, &action, invoked, words)?;
@@ -52,40 +104,6 @@ pub(crate) fn read_operation(
         invoked,
         end,
     })
-}
-
-/// The action that the next words print.
-#[tactic(auto, unfolding(crate::specs::WordReaders::action_from, crate::specs::WordReaders::key_from))]
-fn read_action(alloc: Global, words: &mut Words) -> Result<Action, LineError>
-    ensures { Takes result words.new (action_from words.old) }
-{
-    let word = words.next_word();
-    if word == b"put".as_slice() {
-        return read_put(alloc, words);
-    }
-    if word == b"get".as_slice() {
-        let key = read_key(words.next_word())?;
-        return Ok(Action::Get { key });
-    }
-    if word == b"delete".as_slice() {
-        let key = read_key(words.next_word())?;
-        return Ok(Action::Delete { key });
-    }
-    if word == b"collect".as_slice() {
-        let key = read_key(words.next_word())?;
-        return Ok(Action::Collect { key });
-    }
-    Err(LineError::Bad(Cause::BadWord))
-}
-
-/// The put whose words stand behind the keyword.
-#[tactic(auto, unfolding(crate::specs::WordReaders::put_from))]
-fn read_put(alloc: Global, words: &mut Words) -> Result<Action, LineError>
-    ensures { Takes result words.new (put_from words.old) }
-{
-    let key = read_key(words.next_word())?;
-    let value = read_value(alloc, words.next_word(), MAX_TEXT_VALUE)?;
-    Ok(Action::Put { key, value })
 }
 
 /// The end of an operation with this action that was invoked at this step.
@@ -106,7 +124,7 @@ fn read_end(
     read_replied(alloc, action, invoked, word, words)
 }
 
-/// The end of an operation with a reply, of the word that tells when and the words behind it.
+/// The end of an operation with a reply, of the word that tells when and the words after it.
 #[tactic(auto, unfolding(crate::specs::WordReaders::replied_from))]
 fn read_replied(
     alloc: Global,
@@ -123,53 +141,25 @@ fn read_replied(
     Ok(End::Replied { at, reply })
 }
 
-/// The end of an operation without a reply, of the words behind its dash.
+/// The end of an operation without a reply, of the words after its dash.
 #[tactic(auto, unfolding(crate::specs::WordReaders::pending_from))]
 fn read_pending(action: &Action, words: &mut Words) -> Result<End, Cause>
     ensures { TakesExactly result words.new (pending_from action.now words.old) }
 {
-    let phase = read_phase(action, words.next_word())?;
-    let have = read_u32(words.next_word(), 0, u32::MAX)?;
-    let need = read_u32(words.next_word(), 0, u32::MAX)?;
+    let phase = read_phase_of(action, words.next_word())?;
+    let have = read_u32(words.next_word(), 0, MAX_COUNT)?;
+    let need = read_u32(words.next_word(), 0, MAX_COUNT)?;
     Ok(End::Pending { phase, have, need })
 }
 
 /// The phase that the word names, where the action can be in it.
 #[tactic(auto, unfolding(crate::specs::WordReaders::phase_word_of))]
-fn read_phase(action: &Action, word: &[u8]) -> Result<Phase, Cause>
+fn read_phase_of(action: &Action, word: &[u8]) -> Result<Phase, Cause>
     ensures { result ≡ phase_word_of action.now word.now }
 {
-    let phase = phase_named(word)?;
+    let phase = read_phase(word)?;
     if has_phase(action, phase) {
         Ok(phase)
-    } else {
-        Err(Cause::BadWord)
-    }
-}
-
-/// The phase that the word names.
-#[tactic(auto, unfolding(crate::specs::WordReaders::phase_of))]
-fn phase_named(word: &[u8]) -> Result<Phase, Cause>
-    ensures { result ≡ phase_of word.now }
-{
-    if word == b"read".as_slice() {
-        Ok(Phase::Read)
-    } else if word == b"store".as_slice() {
-        Ok(Phase::Store)
-    } else if word == b"update".as_slice() {
-        Ok(Phase::Update)
-    } else if word == b"fetch".as_slice() {
-        Ok(Phase::Fetch)
-    } else if word == b"watch".as_slice() {
-        Ok(Phase::Watch)
-    } else if word == b"reread".as_slice() {
-        Ok(Phase::Reread)
-    } else if word == b"olds".as_slice() {
-        Ok(Phase::Olds)
-    } else if word == b"drop".as_slice() {
-        Ok(Phase::Drop)
-    } else if word == b"forget".as_slice() {
-        Ok(Phase::Forget)
     } else {
         Err(Cause::BadWord)
     }
@@ -208,11 +198,11 @@ fn read_write_reply(words: &mut Words) -> Result<Reply, Cause>
 {
     let word = words.next_word();
     if word == b"done".as_slice() {
-        let stamp = read_stamp(words)?;
+        let stamp = read_any_stamp(words)?;
         return Ok(Reply::Done(stamp));
     }
     if word == b"exhausted".as_slice() {
-        let stamp = read_stamp(words)?;
+        let stamp = read_any_stamp(words)?;
         return Ok(Reply::Exhausted(stamp));
     }
     Err(Cause::BadWord)
@@ -228,19 +218,19 @@ fn read_get_reply(alloc: Global, words: &mut Words) -> Result<Reply, LineError>
         return read_value_reply(alloc, words);
     }
     if word == b"none".as_slice() {
-        let stamp = read_stamp(words)?;
+        let stamp = read_any_stamp(words)?;
         return Ok(Reply::Absent(stamp));
     }
     Err(LineError::Bad(Cause::BadWord))
 }
 
-/// The value that a get was told, of the words behind the keyword.
+/// The value that a get was told, of the words after the keyword.
 #[tactic(auto, unfolding(crate::specs::WordReaders::value_from))]
 fn read_value_reply(alloc: Global, words: &mut Words) -> Result<Reply, LineError>
     ensures { Takes result words.new (value_from words.old) }
 {
     let value = read_value(alloc, words.next_word(), MAX_TEXT_VALUE)?;
-    let stamp = read_stamp(words)?;
+    let stamp = read_any_stamp(words)?;
     Ok(Reply::Value(value, stamp))
 }
 
@@ -252,6 +242,6 @@ fn read_collect_reply(words: &mut Words) -> Result<Reply, Cause>
     if words.next_word() != b"collected".as_slice() {
         return Err(Cause::BadWord);
     }
-    let count = read_u32(words.next_word(), 0, u32::MAX)?;
+    let count = read_u32(words.next_word(), 0, MAX_COUNT)?;
     Ok(Reply::Collected(count))
 }

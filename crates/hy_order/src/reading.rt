@@ -1,42 +1,28 @@
 //! Reading a report, line by line.
 
-ghost use Rattle.std.specs.Prelude.{◌≡◌, ◌^◌, ◌<◌, ◌≤◌, IfOk, None, codes, length};
+ghost use Rattle.std.specs.Prelude.{◌≡◌, IfOk};
 ghost use Rattle.hy_base.specs.declared.fault.TextError.TheVariants as errors;
 ghost use Rattle.hy_base.specs.declared.fault.TextFault.{TextFault};
-ghost use Rattle.hy_text.specs.Gives.{Gives, GivesText, at_line};
+ghost use Rattle.hy_text.specs.Gives.{GivesText};
+ghost use Rattle.hy_text.specs.Kind.{TakesLines, items_from};
 ghost use Rattle.hy_order.specs.Keys.{sorted_keys};
-ghost use Rattle.hy_order.specs.OpenLine.{opened_seen};
 ghost use Rattle.hy_order.specs.Report.{report_text};
 ghost use Rattle.hy_order.specs.ReportRanges.{IsReport, register_key, register_keys};
-ghost use Rattle.hy_order.specs.ReportReading.{
-  TakesLines,
-  counts_of,
-  end_in,
-  held_in,
-  held_lines,
-  held_of,
-  items_from,
-  last_line,
-  operation_in,
-  operation_lines,
-  order_in,
-  order_lines,
-  order_of,
-  report_of,
-};
+ghost use Rattle.hy_order.specs.ReportReading.{last_of, operation_lines, report_of};
 ghost use Rattle.hy_order.specs.declared.report.Report.{Report};
 
-use crate::cursor::{Cursor, OpenLine};
-use crate::held::{Held, HeldList};
+use crate::end_line::EndLine;
+use crate::held::HeldList;
+use crate::held_line::HeldLines;
 use crate::history::History;
 use crate::operation::Operation;
-use crate::operation_line::read_operation;
-use crate::order::{Order, Orders};
-use crate::report::{LAST_STEP, Report};
-use crate::slots::{read_clouds, read_due_key, read_key_above, read_numbers, read_stamp};
-use hy_base::{Cause, NoMemory, TextError, TextFault};
+use crate::operation_line::OperationLines;
+use crate::order::Orders;
+use crate::order_line::OrderLines;
+use crate::report::Report;
+use hy_base::{Cause, NoMemory, TextError};
 use hy_record::{Action, Key};
-use hy_text::{LineError, Words, check_line_end, read_keyword, read_number};
+use hy_text::{Cursor, read_line, read_lines};
 use std::alloc::Global;
 use std::collections::BTreeSet;
 
@@ -44,8 +30,8 @@ use std::collections::BTreeSet;
 ///
 /// A fault names the first line that does not fit, counted from 1, and the cause that the first word
 /// from the left has which does not fit. A line of another kind in the place of one that is due is
-/// `BadWord`, another key than the one due is `BadKey`, a line behind the last is `Extra`, and where
-/// the text ends before its last line, `NoEnd` names the line behind it.
+/// `BadWord`, another key than the one due is `BadKey`, a line after the last is `Extra`, and where
+/// the text ends before its last line, `NoEnd` names the line after it.
 pub fn read_report(alloc: Global, text: &[u8]) -> Result<Report, TextError>
     // Which report, or which fault: the first of the text.
     ensures exact { GivesText result (report_of text.now) }
@@ -61,11 +47,6 @@ pub fn read_report(alloc: Global, text: &[u8]) -> Result<Report, TextError>
     read_text(alloc, text)
 }
 
-/// What is read of the text of a report in range is that report.
-pub fn reports_are_read_back()
-    ensures { (report : Report) → IsReport report → report_of (report_text report) ≡ Ok report }
-{}
-
 /// The report of the text, or its first fault.
 #[tactic(auto, unfolding(crate::specs::ReportReading::report_of, crate::specs::ReportReading::report_at))]
 fn read_text(alloc: Global, text: &[u8]) -> Result<Report, TextError>
@@ -74,11 +55,11 @@ fn read_text(alloc: Global, text: &[u8]) -> Result<Report, TextError>
     let mut cursor = Cursor::of(text);
     let history = read_history(alloc, &mut cursor)?;
     let keys = keys_due(alloc, history.items())?;
-    let orders = read_orders(alloc, &mut cursor, keys.as_slice())?;
-    let held = read_copies(alloc, &mut cursor)?;
+    let orders = Orders::of(read_lines(alloc, &mut OrderLines::of(&keys), &mut cursor)?);
+    let held = HeldList::of(read_lines(alloc, &mut HeldLines::new(), &mut cursor)?);
     let operations = history.items().len();
     let keys = orders.items().len();
-    read_last_line(&mut cursor, operations as u64, keys as u64)?;
+    read_last_line(alloc, EndLine::of(operations, keys), &mut cursor)?;
     Ok(Report {
         history,
         orders,
@@ -86,21 +67,21 @@ fn read_text(alloc: Global, text: &[u8]) -> Result<Report, TextError>
     })
 }
 
-/// The operations, and what is left behind their lines.
+/// The operations, and what is left after their lines.
 fn read_history(alloc: Global, cursor: &mut Cursor) -> Result<History, TextError>
-    ensures { TakesLines result cursor.new
+    ensures { TakesLines (λ history. history) result cursor.new
         (items_from operation_lines (record { number = 0; step = 0 }) cursor.old.number cursor.old.lines) }
 {
-    let mut ops = Vec::new(alloc);
-    let mut last = 0;
-    let mut step = 0;
-    while let Some(mut line) = cursor.take_by(b"op") {
-        let op = read_operation_line(alloc, last, step, &mut line)?;
-        last = op.number;
-        step = op.invoked;
-        ops.push(op)?;
-    }
+    let ops = read_lines(alloc, &mut OperationLines::new(), cursor)?;
     Ok(History::of(ops))
+}
+
+/// Reads the last line, and that no line stands after it.
+fn read_last_line(alloc: Global, mut end: EndLine, cursor: &mut Cursor) -> Result<(), TextError>
+    ensures { GivesText result (last_of end cursor.old.number cursor.old.lines) }
+{
+    read_line(alloc, &mut end, cursor, Cause::NoEnd)?;
+    cursor.end()
 }
 
 /// The keys that a put, a get or a delete names, in increasing order.
@@ -108,8 +89,8 @@ fn keys_due(alloc: Global, ops: &[Operation]) -> Result<Vec<Key>, NoMemory>
     ensures { IfOk result (λ keys. keys.items ≡ sorted_keys (register_keys ops.now)) }
 {
     let mut keys = BTreeSet::new(alloc);
-    for place in (0..ops.len()).rev() {
-        if let Some(key) = register_key(&ops[place].action) {
+    for op in ops {
+        if let Some(key) = register_key(&op.action) {
             keys.insert(key)?;
         }
     }
@@ -128,186 +109,6 @@ fn register_key(action: &Action) -> Option<Key>
         Action::Put { key, .. } | Action::Get { key } | Action::Delete { key } => Some(*key),
         Action::Collect { .. } => None,
     }
-}
-
-/// The orders of the keys that are due, and what is left behind their lines.
-///
-/// A missing line is no fault here: behind it the last line is missing too.
-fn read_orders(alloc: Global, cursor: &mut Cursor, keys: &[Key]) -> Result<Orders, TextError>
-    ensures { TakesLines result cursor.new
-        (items_from order_lines keys.now cursor.old.number cursor.old.lines) }
-{
-    let mut orders = Vec::new(alloc);
-    for key in keys {
-        let Some(mut line) = cursor.take() else {
-            return Ok(Orders::of(orders));
-        };
-        let order = read_order_line(alloc, key, &mut line)?;
-        orders.push(order)?;
-    }
-    Ok(Orders::of(orders))
-}
-
-/// The retrievable copies, and what is left behind their lines.
-fn read_copies(alloc: Global, cursor: &mut Cursor) -> Result<HeldList, TextError>
-    ensures { TakesLines result cursor.new
-        (items_from held_lines None cursor.old.number cursor.old.lines) }
-{
-    let mut copies = Vec::new(alloc);
-    let mut last = None;
-    while let Some(mut line) = cursor.take_by(b"held") {
-        let held = read_held_line(alloc, last, &mut line)?;
-        last = Some(held.key);
-        copies.push(held)?;
-    }
-    Ok(HeldList::of(copies))
-}
-
-/// Reads the last line, behind so many operations and so many orders.
-fn read_last_line(cursor: &mut Cursor, ops: u64, orders: u64) -> Result<(), TextError>
-    ensures { GivesText result (last_line ops orders cursor.old.number cursor.old.lines) }
-{
-    let Some(mut line) = cursor.take() else {
-        return Err(TextError::Fault(TextFault {
-            line: cursor.number(),
-            cause: Cause::NoEnd,
-        }));
-    };
-    if let Err(cause) = read_end_line(&mut line, ops, orders) {
-        return Err(TextError::Fault(TextFault {
-            line: line.number,
-            cause,
-        }));
-    }
-    match cursor.take() {
-        None => Ok(()),
-        Some(line) => Err(TextError::Fault(TextFault {
-            line: line.number,
-            cause: Cause::Extra,
-        })),
-    }
-}
-
-/// The operation of the line; the last number and the last step stand before.
-fn read_operation_line(
-    alloc: Global,
-    last: u32,
-    step: u64,
-    line: &mut OpenLine,
-) -> Result<Operation, TextError>
-    requires { step ≤ LAST_STEP }
-    ensures gives { GivesText result
-        (at_line line.old.number (operation_in last step (opened_seen line.old))) }
-    ensures range { IfOk result (λ op. op.invoked ≤ LAST_STEP) }
-{
-    match read_closed_operation(alloc, last, step, line) {
-        Ok(op) => Ok(op),
-        Err(error) => Err(error.at_line(line.number)),
-    }
-}
-
-/// The operation of the line, where a line feed ends it.
-fn read_closed_operation(
-    alloc: Global,
-    last: u32,
-    step: u64,
-    line: &mut OpenLine,
-) -> Result<Operation, LineError>
-    requires { step ≤ LAST_STEP }
-    ensures gives { Gives result (operation_in last step (opened_seen line.old)) }
-    ensures range { IfOk result (λ op. op.invoked ≤ LAST_STEP) }
-    ensures number { line.new.number ≡ line.old.number }
-{
-    let op = read_operation(alloc, last, step, &mut line.words)?;
-    check_line_end(line.ended)?;
-    Ok(op)
-}
-
-/// The order of the line, whose key is due.
-fn read_order_line(alloc: Global, key: &Key, line: &mut OpenLine) -> Result<Order, TextError>
-    ensures { GivesText result (at_line line.old.number (order_in key.now (opened_seen line.old))) }
-{
-    match read_closed_order(alloc, key, line) {
-        Ok(order) => Ok(order),
-        Err(error) => Err(error.at_line(line.number)),
-    }
-}
-
-/// The order of the line, where a line feed ends it.
-fn read_closed_order(alloc: Global, key: &Key, line: &mut OpenLine) -> Result<Order, LineError>
-    ensures gives { Gives result (order_in key.now (opened_seen line.old)) }
-    ensures number { line.new.number ≡ line.old.number }
-{
-    read_keyword(line.keyword, b"order")?;
-    let order = read_order(alloc, key, &mut line.words)?;
-    check_line_end(line.ended)?;
-    Ok(order)
-}
-
-/// The order of the key, of the words behind the keyword.
-#[tactic(auto, unfolding(crate::specs::ReportReading::order_of))]
-fn read_order(alloc: Global, key: &Key, words: &mut Words) -> Result<Order, LineError>
-    ensures { Gives result (order_of key.now words.old) }
-{
-    read_due_key(key, words.next_word())?;
-    let ops = read_numbers(alloc, words)?;
-    Ok(Order { key: *key, ops })
-}
-
-/// The retrievable copies of the line; the last key stands before.
-fn read_held_line(alloc: Global, last: Option<Key>, line: &mut OpenLine) -> Result<Held, TextError>
-    ensures { GivesText result (at_line line.old.number (held_in last (opened_seen line.old))) }
-{
-    match read_closed_held(alloc, last, line) {
-        Ok(held) => Ok(held),
-        Err(error) => Err(error.at_line(line.number)),
-    }
-}
-
-/// The retrievable copies of the line, where a line feed ends it.
-fn read_closed_held(
-    alloc: Global,
-    last: Option<Key>,
-    line: &mut OpenLine,
-) -> Result<Held, LineError>
-    ensures gives { Gives result (held_in last (opened_seen line.old)) }
-    ensures number { line.new.number ≡ line.old.number }
-{
-    let held = read_held(alloc, last, &mut line.words)?;
-    check_line_end(line.ended)?;
-    Ok(held)
-}
-
-/// The retrievable copies of a key, of the words behind the keyword.
-#[tactic(auto, unfolding(crate::specs::ReportReading::held_of))]
-fn read_held(alloc: Global, last: Option<Key>, words: &mut Words) -> Result<Held, LineError>
-    ensures { Gives result (held_of last words.old) }
-{
-    let key = read_key_above(last, words.next_word())?;
-    let stamp = read_stamp(words)?;
-    let clouds = read_clouds(alloc, words.next_word())?;
-    words.end()?;
-    Ok(Held { key, stamp, clouds })
-}
-
-/// Reads the last line, where a line feed ends it.
-fn read_end_line(line: &mut OpenLine, ops: u64, orders: u64) -> Result<(), Cause>
-    ensures value { result ≡ end_in ops orders (opened_seen line.old) }
-    ensures number { line.new.number ≡ line.old.number }
-{
-    read_keyword(line.keyword, b"end")?;
-    read_counts(&mut line.words, ops, orders)?;
-    check_line_end(line.ended)
-}
-
-/// Reads the words of the last line behind the keyword.
-#[tactic(auto, unfolding(crate::specs::ReportReading::counts_of))]
-fn read_counts(words: &mut Words, ops: u64, orders: u64) -> Result<(), Cause>
-    ensures { result ≡ counts_of ops orders words.old }
-{
-    read_number(words.next_word(), ops, ops)?;
-    read_number(words.next_word(), orders, orders)?;
-    words.end()
 }
 
 #[cfg(test)]

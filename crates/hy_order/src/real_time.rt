@@ -7,7 +7,7 @@ ghost use Rattle.hy_order.specs.Violation.{early_numbers, returned_number};
 
 use crate::operation::{End, Operation};
 
-/// The first operation behind which one stands that returned before it was invoked: the number of the
+/// The first operation after which one stands that returned before it was invoked: the number of the
 /// first such one, and its own.
 pub(crate) fn first_early(listed: &[&Operation]) -> Option<(u32, u32)>
     ensures { result ≡ early_numbers (map (λ op. op.now) listed.now) }
@@ -30,7 +30,7 @@ fn first_returned_before(listed: &[&Operation], step: u64) -> Option<u32>
     None
 }
 
-/// The place of the first operation behind which one stands that returned before it was invoked, or
+/// The place of the first operation after which one stands that returned before it was invoked, or
 /// the length where there is none.
 ///
 /// It goes from the back, and keeps the earliest return of the operations that it has passed.

@@ -8,25 +8,23 @@ ghost use Rattle.hy_order.specs.WordReaders.{
   due_key,
   is_above,
   key_above,
-  clouds_named_below,
-  clouds_word_of,
-  stamp_from,
+  store_clouds_of,
+  any_stamp_from,
   numbers_of,
 };
 
-use crate::writing::{cloud_numbers, push_clouds};
-use hy_base::{Cause, Numbers};
+use hy_base::{Cause, MAX_COUNT, MAX_N, Numbers};
 use hy_record::{Key, Stamp};
-use hy_text::{LineError, Words, read_key, read_number, read_u32};
+use hy_text::{LineError, Words, read_clouds, read_key, read_number, read_stamp, read_u32};
 use std::alloc::Global;
 
-/// The number behind the last one.
+/// The number after the last one.
 pub(crate) fn read_number_after(last: u32, word: &[u8]) -> Result<u32, Cause>
     ensures value { result ≡ number_after last word.now }
     ensures next { IfOk result (λ number. number ≡ last + 1) }
 {
     let next = u64::from(last) + 1;
-    let number = read_number(word, next, next.min(u64::from(u32::MAX)))?;
+    let number = read_number(word, next, next.min(u64::from(MAX_COUNT)))?;
     Ok(number as u32)
 }
 
@@ -63,45 +61,18 @@ pub(crate) fn read_key_above(last: Option<Key>, word: &[u8]) -> Result<Key, Caus
     }
 }
 
-/// The timestamp that two words print.
-#[tactic(auto, unfolding(crate::specs::WordReaders::stamp_from))]
-pub(crate) fn read_stamp(words: &mut Words) -> Result<Stamp, Cause>
-    ensures { TakesExactly result words.new (stamp_from words.old) }
+/// The timestamp that the next two words print.
+pub(crate) fn read_any_stamp(words: &mut Words) -> Result<Stamp, Cause>
+    ensures { TakesExactly result words.new (any_stamp_from words.old) }
 {
-    let sn = read_u32(words.next_word(), 0, u32::MAX - 1)?;
-    let cid = read_u32(words.next_word(), 0, u32::MAX)?;
-    Ok(Stamp::new(sn, cid).unwrap())
+    read_stamp(words, 0, MAX_COUNT)
 }
 
-/// The clouds below 10 whose digits stand in the word.
-fn clouds_named(word: &[u8]) -> u16
-    ensures { result ≡ clouds_named_below 10 word.now }
+/// The set of clouds of a store whose list is the word.
+pub(crate) fn read_store_clouds(word: &[u8]) -> Result<u16, Cause>
+    ensures { result ≡ store_clouds_of word.now }
 {
-    let mut clouds: u16 = 0;
-    for cloud in 0..10u32 {
-        let digit = b'0' + cloud as u8;
-        if word.contains(&digit) {
-            clouds += 1 << cloud;
-        }
-    }
-    clouds
-}
-
-/// The set of clouds whose list is the word.
-///
-/// It prints the set that the digits of the word name, and compares.
-#[tactic(auto, unfolding(crate::specs::WordReaders::clouds_word_of))]
-pub(crate) fn read_clouds(alloc: Global, word: &[u8]) -> Result<u16, LineError>
-    ensures { Gives result (clouds_word_of word.now) }
-{
-    let clouds = clouds_named(word);
-    let mut printed = Vec::new(alloc);
-    push_clouds(&mut printed, &cloud_numbers(alloc, clouds)?)?;
-    if word == &printed[1..] {
-        Ok(clouds)
-    } else {
-        Err(LineError::Bad(Cause::BadNumber))
-    }
+    read_clouds(word, u32::from(MAX_N) - 1)
 }
 
 /// The numbers that all words print which are left.
@@ -110,7 +81,7 @@ pub(crate) fn read_numbers(alloc: Global, words: &mut Words) -> Result<Numbers, 
 {
     let mut numbers = Vec::new(alloc);
     while words.end().is_err() {
-        let number = read_u32(words.next_word(), 1, u32::MAX)?;
+        let number = read_u32(words.next_word(), 1, MAX_COUNT)?;
         numbers.push(number)?;
     }
     Ok(Numbers::of(numbers))

@@ -14,7 +14,7 @@ pub enum Verdict {
     Stranger(u32),
     /// This number is listed a second time, and none is before.
     Twice(u32),
-    /// The second is the first listed operation behind which one stands that returned before it was
+    /// The second is the first listed operation after which one stands that returned before it was
     /// invoked; the first is the first such one.
     Early(u32, u32),
     /// This get is the first that answers other than the last write before it left.

@@ -1,21 +1,15 @@
 //! Writing a report, line by line.
 
 ghost use Rattle.std.specs.Prelude.{◌≡◌, ◌++◌, IfOk, OnOk, codes, map, [], ◌∷◌};
-ghost use Rattle.std.specs.Fmt.{decimal};
-ghost use Rattle.hy_text.specs.Line.{led_by, line_text, spaced, text_of};
-ghost use Rattle.hy_record.specs.Clouds.{clouds_of};
+ghost use Rattle.hy_text.specs.Line.{line_text, spaced, text_of};
 ghost use Rattle.hy_order.specs.Report.{
   report_text,
   operation_row,
   order_row,
   held_row,
   end_row,
-  stamp_words,
-  action_words,
   reply_words,
   end_words,
-  phase_word,
-  cloud_word,
 };
 
 use crate::held::Held;
@@ -23,8 +17,11 @@ use crate::operation::{End, Operation};
 use crate::order::Order;
 use crate::report::Report;
 use hy_base::{Blob, NoMemory};
-use hy_record::{Action, Phase, Reply, Stamp};
-use hy_text::{push_number, push_number_word, push_value_word, push_word};
+use hy_record::Reply;
+use hy_text::{
+    Named, push_action, push_clouds, push_number_word, push_numbers, push_stamp, push_value_word,
+    push_word,
+};
 use std::alloc::Global;
 
 /// The text of the report.
@@ -79,30 +76,6 @@ fn push_operation(out: &mut Vec<u8>, op: &Operation) -> Result<(), NoMemory>
     Ok(())
 }
 
-fn push_action(out: &mut Vec<u8>, action: &Action) -> Result<(), NoMemory>
-    ensures { OnOk result (out.new.items ≡ out.old.items ++ spaced (action_words action.now)) }
-{
-    match action {
-        Action::Put { key, value } => {
-            out.extend_from_slice(b" put")?;
-            push_word(out, key.bytes())?;
-            push_value_word(out, value.bytes())
-        }
-        Action::Get { key } => {
-            out.extend_from_slice(b" get")?;
-            push_word(out, key.bytes())
-        }
-        Action::Delete { key } => {
-            out.extend_from_slice(b" delete")?;
-            push_word(out, key.bytes())
-        }
-        Action::Collect { key } => {
-            out.extend_from_slice(b" collect")?;
-            push_word(out, key.bytes())
-        }
-    }
-}
-
 fn push_end(out: &mut Vec<u8>, end: &End) -> Result<(), NoMemory>
     ensures { OnOk result (out.new.items ≡ out.old.items ++ spaced (end_words end.now)) }
 {
@@ -113,7 +86,7 @@ fn push_end(out: &mut Vec<u8>, end: &End) -> Result<(), NoMemory>
         }
         End::Pending { phase, have, need } => {
             out.extend_from_slice(b" -")?;
-            push_phase(out, *phase)?;
+            push_word(out, phase.word())?;
             push_number_word(out, (*have).into())?;
             push_number_word(out, (*need).into())
         }
@@ -148,30 +121,6 @@ fn push_reply(out: &mut Vec<u8>, reply: &Reply) -> Result<(), NoMemory>
     }
 }
 
-fn push_phase(out: &mut Vec<u8>, phase: Phase) -> Result<(), NoMemory>
-    ensures { OnOk result (out.new.items ≡ out.old.items ++ 32 ∷ phase_word phase) }
-{
-    let word: &[u8] = match phase {
-        Phase::Read => b"read",
-        Phase::Store => b"store",
-        Phase::Update => b"update",
-        Phase::Fetch => b"fetch",
-        Phase::Watch => b"watch",
-        Phase::Reread => b"reread",
-        Phase::Olds => b"olds",
-        Phase::Drop => b"drop",
-        Phase::Forget => b"forget",
-    };
-    push_word(out, word)
-}
-
-fn push_stamp(out: &mut Vec<u8>, stamp: &Stamp) -> Result<(), NoMemory>
-    ensures { OnOk result (out.new.items ≡ out.old.items ++ spaced (stamp_words stamp.now)) }
-{
-    push_number_word(out, stamp.sn().into())?;
-    push_number_word(out, stamp.cid().into())
-}
-
 fn push_order(out: &mut Vec<u8>, order: &Order) -> Result<(), NoMemory>
     ensures { OnOk result (out.new.items ≡ out.old.items ++ line_text (order_row order.now)) }
 {
@@ -182,52 +131,15 @@ fn push_order(out: &mut Vec<u8>, order: &Order) -> Result<(), NoMemory>
     Ok(())
 }
 
-/// Appends each number with the separator before it.
-fn push_numbers(out: &mut Vec<u8>, separator: u8, numbers: &[u32]) -> Result<(), NoMemory>
-    ensures { OnOk result (out.new.items ≡ out.old.items ++ led_by separator (map decimal numbers.now)) }
-{
-    for number in numbers {
-        out.push(separator)?;
-        push_number(out, u64::from(*number))?;
-    }
-    Ok(())
-}
-
 fn push_held(out: &mut Vec<u8>, held: &Held) -> Result<(), NoMemory>
     ensures { OnOk result (out.new.items ≡ out.old.items ++ line_text (held_row held.now)) }
 {
     out.extend_from_slice(b"held")?;
     push_word(out, held.key.bytes())?;
     push_stamp(out, &held.stamp)?;
-    let clouds = cloud_numbers(*out.allocator(), held.clouds)?;
-    push_clouds(out, &clouds)?;
+    push_clouds(out, held.clouds)?;
     push_line_end(out)?;
     Ok(())
-}
-
-/// Appends a space and the numbers with commas between, or a dash where there is none.
-pub(crate) fn push_clouds(out: &mut Vec<u8>, clouds: &[u32]) -> Result<(), NoMemory>
-    ensures { OnOk result (out.new.items ≡ out.old.items ++ 32 ∷ cloud_word clouds.now) }
-{
-    let Some((first, rest)) = clouds.split_first() else {
-        return push_word(out, b"-");
-    };
-    push_number_word(out, u64::from(*first))?;
-    push_numbers(out, b',', rest)?;
-    Ok(())
-}
-
-/// The numbers of the clouds of the set, in increasing order.
-pub(crate) fn cloud_numbers(alloc: Global, clouds: u16) -> Result<Vec<u32>, NoMemory>
-    ensures { IfOk result (λ numbers. numbers.items ≡ clouds_of clouds) }
-{
-    let mut numbers = Vec::new(alloc);
-    for cloud in 0..16u32 {
-        if (clouds >> cloud) % 2 == 1 {
-            numbers.push(cloud)?;
-        }
-    }
-    Ok(numbers)
 }
 
 fn push_end_line(out: &mut Vec<u8>, report: &Report) -> Result<(), NoMemory>

@@ -7,3 +7,4 @@ pub mod Progress
 pub mod Turns
 pub mod Session
 pub mod Cloud
+pub mod Rows

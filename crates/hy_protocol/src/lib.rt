@@ -5,6 +5,8 @@
 
 mod addressing;
 mod plan;
+mod rows;
 
 pub use addressing::is_for;
 pub use plan::{CollectPlan, GetPlan, PutPlan};
+pub use rows::worked_inputs_are_answered;

@@ -25,7 +25,7 @@ use Rattle.hy_put.specs.declared.state.State.TheVariants as at
 use Rattle.hy_put.specs.declared.put.PutOp.{PutOp}
 use Rattle.hy_put.specs.Contents.{storing_progress}
 use Rattle.hy_put.specs.Standing.{Carries, IsReading, IsStoring, IsUpdating, HasReplied, TellsPut, StandsAt, StandsForOwn, Does}
-use Rattle.hy_put.proofs.Further.{has-more, since-more, update-more, reply-more, sends-more, reply-stays, none-to-write, none-left, own-upon, record-by, few-no-record, enough-record, turn_with, turn-now, turn-late, acknowledged, marks-are, marks-more}
+use Rattle.hy_put.proofs.Further.{has-more, since-more, update-more, reply-more, sends-more, reply-stays, none-to-write, none-left, own-upon, record-by, few-no-record, enough-record, turn_with, turn-now, turn-late, acknowledged, acks-none, marks-are, marks-more}
 use Rattle.hy_put.proofs.Told.{updating_progress, tells-updating, tells-storing, tells-at}
 use Rattle.hy_put.proofs.ByContent.{within-of}
 use Rattle.hy_protocol.specs.Progress.{write_progress}
@@ -158,10 +158,6 @@ storing-quiet plan m n own cue turn s h was now carries calm is =
 
 -- ---- the first record that is told
 
-none-pass : (a n : ℕ) → filter (λ (c : ℕ). false) (range_with_len a n) ≡ []
-none-pass a zero = refl
-none-pass a (suc n) = none-pass (a + 1) n
-
 none-marked : (marks : Marks) (a n : ℕ) → ((i : ℕ) → is_marked marks i ≡ false) → filter (λ cloud. is_marked marks cloud) (range_with_len a n) ≡ []
 none-marked marks a zero blank = refl
 none-marked marks a (suc n) blank = let here : is_marked marks a ≡ false = blank a in rw here (none-marked marks (a + 1) n blank)
@@ -212,12 +208,11 @@ reading-deletes plan m n own cue turn held stamp h was now carries none tells up
 -- a put, at the first record
 pub reading-stores : (plan : PutPlan) (m n : PutOp) (own : List Cue) (cue : Cue) (turn : Turn) (held : Option RecordValue) (s : Storing) → StandsForOwn plan m own → m.state ≡ at.Reading → n.state ≡ at.Storing s → Carries plan n → is_some plan.value ≡ true → 0 < quorum_size plan.f plan.k → has_of cue ≡ Some held → stamp_upon plan.client held ≡ Some s.stamp
     → ((i : ℕ) → is_marked s.acked i ≡ false) → turn ≡ turn_with (puts_to plan plan.value (Some s.stamp) (range_with_len 0 (quorum_size plan.f plan.k))) None → Does plan own cue turn n
-unfolding acknowledging_clouds
 reading-stores plan m n own cue turn held s h was now carries there some tells upon blank is =
     let r : IsReading plan own = subst (λ (x : State). StandsAt plan x own) was h.state in
     let has : first_has (cue ∷ own) ≡ Some held = has-more cue own ∙ rw (r.has, tells) refl in
     let since : since_has (cue ∷ own) ≡ [] = since-more cue own ∙ rw r.has refl in
-    let acks : acknowledging_clouds plan s.stamp (cue ∷ own) ≡ [] = ap (λ (xs : List Cue). filter (λ cloud. list_any (is_answer is_stored s.stamp cloud) xs) (range_with_len 0 (cloud_count plan.f plan.k))) since ∙ none-pass 0 (cloud_count plan.f plan.k) in
+    let acks : acknowledging_clouds plan s.stamp (cue ∷ own) ≡ [] = acks-none plan s.stamp (cue ∷ own) since in
     let low : length (acknowledging_clouds plan s.stamp (cue ∷ own)) < quorum_size plan.f plan.k = subst (λ (xs : List ℕ). length xs < quorum_size plan.f plan.k) (sym acks) some in
     let written : record_at plan (cue ∷ own) ≡ None = record-by plan (cue ∷ own) held s.stamp has upon ∙ few-no-record plan (cue ∷ own) plan.value s.stamp there low in
     let stamped : is_some (stamp_upon plan.client held) ≡ true = ap is_some upon in

@@ -1,5 +1,5 @@
 -- The definitions of a write, one input further.
-use Rattle.std.proofs.Common.{◌≡◌, ℕ, ◌+◌, ◌≤◌, ◌<◌, Bool, true, false, List, [], ◌∷◌, length, Option, Some, None, refl, sym, ap, ◌∙◌, arith}
+use Rattle.std.proofs.Common.{◌≡◌, ℕ, zero, suc, ◌+◌, ◌≤◌, ◌<◌, Bool, true, false, List, [], ◌∷◌, length, Option, Some, None, refl, sym, ap, ◌∙◌, arith}
 use Rattle.std.specs.Prelude.{◌||◌, nat_le, filter, is_some, if◌then◌else◌}
 use Rattle.std.specs.Option.{option_or}
 use Rattle.std.specs.List.{list_any, range_with_len}
@@ -64,6 +64,11 @@ pub own-upon : (plan : PutPlan) (own : List Cue) (held : Option RecordValue) →
 unfolding own_stamp
 own-upon plan own held has = rw has refl
 
+-- the record that can be written now, by the write's own timestamp
+pub record-own : (plan : PutPlan) (own : List Cue) (stamp : Timestamp) → own_stamp plan own ≡ Some stamp → record_at plan own ≡ record_with plan own plan.value stamp
+unfolding record_at
+record-own plan own stamp is = rw is refl
+
 -- the record that could be written now, where this timestamp is the write's own
 pub record-by : (plan : PutPlan) (own : List Cue) (held : Option RecordValue) (stamp : Timestamp) → first_has own ≡ Some held → stamp_upon plan.client held ≡ Some stamp → record_at plan own ≡ record_with plan own plan.value stamp
 unfolding record_at own_stamp
@@ -100,6 +105,15 @@ turn-late plan own cue turn there is =
 
 abbrev pub acknowledged : Timestamp → List Cue → ℕ → Bool
 acknowledged stamp own cloud = list_any (is_answer is_stored stamp cloud) (since_has own)
+
+none-pass : (a n : ℕ) → filter (λ (c : ℕ). false) (range_with_len a n) ≡ []
+none-pass a zero = refl
+none-pass a (suc n) = none-pass (a + 1) n
+
+-- nobody has acknowledged where nothing came after the first answer
+pub acks-none : (plan : PutPlan) (stamp : Timestamp) (own : List Cue) → since_has own ≡ [] → acknowledging_clouds plan stamp own ≡ []
+unfolding acknowledging_clouds
+acks-none plan stamp own none = ap (λ (since : List Cue). filter (λ cloud. list_any (is_answer is_stored stamp cloud) since) (range_with_len 0 (cloud_count plan.f plan.k))) none ∙ none-pass 0 (cloud_count plan.f plan.k)
 
 pub acks-more : (plan : PutPlan) (stamp : Timestamp) (cue : Cue) (own : List Cue) → is_some (first_has own) ≡ true
     → acknowledging_clouds plan stamp (cue ∷ own) ≡ filter (λ cloud. is_answer is_stored stamp cloud cue || acknowledged stamp own cloud) (range_with_len 0 (cloud_count plan.f plan.k))

@@ -4,4 +4,6 @@ pub mod ByState
 pub mod Fragments
 pub mod Further
 pub mod Outcomes
+pub mod Turns
 pub mod Told
+pub mod Updates

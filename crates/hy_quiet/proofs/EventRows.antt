@@ -14,7 +14,7 @@ use Rattle.hy_text.proofs.Keys.{key_takes, key_again}
 use Rattle.hy_text.proofs.Numbers.{number_takes, number_again}
 use Rattle.hy_text.proofs.Printed.{length-decimal, length-key, length-value_word}
 use Rattle.hy_base.proofs.Results.{bind_ok, ok_is}
-use Rattle.hy_text.proofs.Slots.{end_takes, chosen, behind, words_from_first}
+use Rattle.hy_text.proofs.Slots.{end_takes, chosen, keyword_first, words_from_first}
 use Rattle.hy_text.proofs.Values.{value_takes, value_again}
 use Rattle.hy_quiet.specs.declared.event.Event.{Event}
 use Rattle.hy_quiet.specs.declared.event.Event.TheVariants.{Open, Put, Get}
@@ -58,9 +58,9 @@ action_takes : (client : ℕ) (words : List (List ℕ)) (event : Event) → IsTr
 unfolding action_of
 action_takes client words event is e =
     elim (chosen (bytes_eq (first_word words) (codes "put")) (put_of client (later_words words)) _ event e) [
-      | inl put ↦ subst (λ (ws : List (List ℕ)). Spells (codes "do" ∷ decimal client ∷ ws) event) (sym (behind words (codes "put") put.0 (omega arith))) (put_takes client (later_words words) event is put.1)
+      | inl put ↦ subst (λ (ws : List (List ℕ)). Spells (codes "do" ∷ decimal client ∷ ws) event) (sym (keyword_first words (codes "put") put.0 (omega arith))) (put_takes client (later_words words) event is put.1)
       | inr other ↦ elim (chosen (bytes_eq (first_word words) (codes "get")) (get_of client (later_words words)) (Err BadWord) event other) [
-        | inl get ↦ subst (λ (ws : List (List ℕ)). Spells (codes "do" ∷ decimal client ∷ ws) event) (sym (behind words (codes "get") get.0 (omega arith))) (get_takes client (later_words words) event is get.1)
+        | inl get ↦ subst (λ (ws : List (List ℕ)). Spells (codes "do" ∷ decimal client ∷ ws) event) (sym (keyword_first words (codes "get") get.0 (omega arith))) (get_takes client (later_words words) event is get.1)
         | inr bad ↦ absurd cc
       ]
     ]
@@ -87,9 +87,9 @@ pub event_takes : (words : List (List ℕ)) (event : Event) → event_of words �
 unfolding event_of
 event_takes words event e =
     elim (chosen (bytes_eq (first_word words) (codes "open")) (open_of (later_words words)) _ event e) [
-      | inl joins ↦ subst (λ (ws : List (List ℕ)). Spells ws event) (sym (behind words (codes "open") joins.0 (omega arith))) (open_takes (later_words words) event joins.1)
+      | inl joins ↦ subst (λ (ws : List (List ℕ)). Spells ws event) (sym (keyword_first words (codes "open") joins.0 (omega arith))) (open_takes (later_words words) event joins.1)
       | inr other ↦ elim (chosen (bytes_eq (first_word words) (codes "do")) (do_of (later_words words)) (Err BadWord) event other) [
-        | inl does ↦ subst (λ (ws : List (List ℕ)). Spells ws event) (sym (behind words (codes "do") does.0 (omega arith))) (do_takes (later_words words) event does.1)
+        | inl does ↦ subst (λ (ws : List (List ℕ)). Spells ws event) (sym (keyword_first words (codes "do") does.0 (omega arith))) (do_takes (later_words words) event does.1)
         | inr bad ↦ absurd cc
       ]
     ]

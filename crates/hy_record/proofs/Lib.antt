@@ -7,3 +7,4 @@ pub mod Names
 pub mod Order
 pub mod CloudSets
 pub mod Validity
+pub mod Sizes

@@ -1,11 +1,12 @@
 -- How a record is spelled: numbers stand with their highest byte first.
-use Rattle.std.specs.Prelude.{◌≡◌, ℕ, List, [], ◌∷◌, ◌++◌}
+use Rattle.std.specs.Prelude.{◌≡◌, ℕ, ◌+◌, ◌*◌, List, [], ◌∷◌, ◌++◌}
 use Rattle.std.specs.List.{concat}
 use Rattle.byteorder.specs.Endian.{big_bytes}
 use Rattle.hy_record.specs.declared.kind.Kind.{Kind}
 use Rattle.hy_record.specs.declared.kind.Kind.TheVariants.{Tomb, Whole, Coded}
 use Rattle.hy_record.specs.Stamp.{Timestamp}
-use Rattle.hy_record.specs.Record.{RecordValue, IsRecord}
+use Rattle.hy_record.specs.Hash.{HASH_SIZE}
+use Rattle.hy_record.specs.Record.{RecordValue, IsRecord, hash_count}
 
 -- the number and the client, in four bytes each
 abbrev pub stamp_bytes : Timestamp → List ℕ
@@ -41,3 +42,13 @@ value_bytes Coded r = layout_bytes r.size r.f r.k r.clouds ++ concat r.hashes
 -- the one spelling of a record
 abbrev pub record_bytes : RecordValue → List ℕ
 record_bytes r = 1 ∷ kind_byte r.kind ∷ stamp_bytes r.stamp ++ value_bytes r.kind r
+
+-- how many bytes the layout of a value of this kind has
+abbrev pub layout_size : Kind → ℕ
+layout_size Tomb = 0
+layout_size Whole = 8
+layout_size Coded = 8
+
+-- how many bytes a spelling has: ten up to the end of the timestamp, then the layout, and the hashes
+abbrev pub spelling_size : Kind → ℕ → ℕ → ℕ
+spelling_size kind f k = 10 + layout_size kind + HASH_SIZE * hash_count kind f k

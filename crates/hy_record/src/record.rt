@@ -3,7 +3,6 @@
 ghost use Rattle.std.specs.Prelude.{◌≡◌, ◌≢◌, ◌<◌, ◌≤◌, ◌↔◌, IsTrue, IsSome, IfOk, All, length};
 ghost use Rattle.hy_base.specs.Shape.{IsShape, cloud_count, quorum_size, fragment_size};
 ghost use Rattle.hy_record.specs.Stamp.{IsWritten};
-ghost use Rattle.hy_record.specs.Clouds.{clouds_of};
 ghost use Rattle.hy_record.specs.Hash.{IsHash};
 ghost use Rattle.hy_record.specs.Record.{RecordValue, IsRecord, tombstone, kind_of_parts, is_cloud_list, hash_count, hash_of, record_of_value, is_tombstone, is_valid_fragment, IsValidFragment};
 
@@ -19,7 +18,6 @@ mod reading;
 mod spelling;
 
 pub use fault::RecordFault;
-pub use reading::{record_spellings_are_apart, records_are_read_back};
 
 /// When the value of a key was written, and how it lies in the clouds; or that it was deleted.
 #[derive(Debug, Drop)]
@@ -261,9 +259,3 @@ fn copied(alloc: Global, hashes: &[Hash]) -> Result<Vec<Hash>, NoMemory>
     }
     Ok(copy)
 }
-
-/// The law that a record's clouds are a quorum of those of its store.
-pub fn record_lists_a_quorum()
-    ensures count { (r : RecordValue) → IsRecord r → length (clouds_of r.clouds) ≡ quorum_size r.f r.k }
-    ensures clouds { (r : RecordValue) → IsRecord r → All (λ cloud. cloud < cloud_count r.f r.k) (clouds_of r.clouds) }
-{}

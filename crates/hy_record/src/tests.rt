@@ -191,14 +191,14 @@ fn a_tombstone_has_ten_bytes(rt: HostRuntime) -> Result<(), Fail> {
         ),
         (0, 0, 0, 0, 0)
     );
-    assert!(rt; !copy.is_valid(0, b""));
+    assert!(rt; !copy.is_valid(0, b"") && copy.known() == &tomb);
     Ok(())
 }
 
 #[test]
 fn each_place_of_a_record_is_judged(rt: HostRuntime) -> Result<(), Fail> {
     let alloc = rt.alloc();
-    for (f, k, clouds) in [(0, 1, 1), (1, 2, 7), (3, 4, 127)] {
+    for (f, k, clouds) in [(0, 1, 1), (1, 2, 7), (2, 3, 31), (3, 4, 127)] {
         let bytes = spelled(&rt, alloc, f, k, clouds)?;
         for end in 0..bytes.len() {
             let front = &bytes[..end];
@@ -209,6 +209,8 @@ fn each_place_of_a_record_is_judged(rt: HostRuntime) -> Result<(), Fail> {
         }
         for (place, text, fault) in [
             (0, b"\0\0\0\0".as_slice(), RecordFault::BadVersion(0)),
+            (0, b"\x0c".as_slice(), RecordFault::BadVersion(12)),
+            (0, b"\xff".as_slice(), RecordFault::BadVersion(255)),
             (1, b"\x03\0\0\0".as_slice(), RecordFault::BadKind(3)),
             (2, b"\0\0\0\0".as_slice(), RecordFault::BadShape(2)),
             (2, b"\xff\xff\xff\xff".as_slice(), RecordFault::BadShape(2)),
@@ -270,6 +272,21 @@ fn stamps_keep_their_order(rt: HostRuntime) -> Result<(), Fail> {
     assert!(rt; one.is_below(&two) && !two.is_below(&one) && one.is_same(&one));
     let none = Stamps::of(Vec::new(alloc));
     assert_eq!(rt; none.items().len(), 0);
+    let first = Stamps::of(vec![in alloc; one]?);
+    assert!(rt; first == Stamps::of(vec![in alloc; one]?) && first != none);
     assert_eq!(rt; none.into_items().len(), 0);
+    assert_eq!(rt; MAX_STAMPS, 256);
+    Ok(())
+}
+
+#[test]
+fn the_longest_spelling_has_338_bytes(rt: HostRuntime) -> Result<(), Fail> {
+    let alloc = rt.alloc();
+    assert_eq!(rt; spelled(&rt, alloc, 3, 4, 127)?.len(), 338);
+    assert_eq!(rt; spelled(&rt, alloc, 3, 1, 15)?.len(), 50);
+    record_lists_a_quorum();
+    record_spellings_are_short();
+    record_spellings_are_apart();
+    records_are_read_back();
     Ok(())
 }

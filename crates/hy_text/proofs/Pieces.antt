@@ -70,7 +70,7 @@ lines_of-cut text line rest e =
     let more : lines_of_pieces (line ∷ pieces_at 10 rest) ≡ ended_line (words_of line) ∷ lines_of_pieces (pieces_at 10 rest) = subst (λ (ps : List (List ℕ)). lines_of_pieces (line ∷ ps) ≡ ended_line (words_of line) ∷ lines_of_pieces ps) (sym p.2) refl in
     ap lines_of_pieces e ∙ more
 
--- what stands behind the last line feed is a line without end
+-- what stands after the last line feed is a line without end
 pub lines_of-last : (text : List ℕ) → pieces_at 10 text ≡ text ∷ [] → eqb (length text) 0 ≡ false → lines_of text ≡ record { words = words_of text; ended = false } ∷ []
 unfolding lines_of
 lines_of-last text e some = ap lines_of_pieces e ∙ rw some refl

@@ -1,7 +1,7 @@
 -- The laws of lines: rows that are written are read again, and a text whose lines all end is the text of its words.
 use Rattle.std.proofs.Common.{◌≡◌, ℕ, Bool, true, false, cond, not, eqb, List, [], ◌∷◌, ◌++◌, length, map, refl, sym, ap, ◌∙◌, append_assoc}
 use Rattle.std.specs.List.{AllByRecursion, join_with_byte, list_all}
-use Rattle.std.proofs.lemmas.Bool.{eqb-true, not-true}
+use Rattle.std.proofs.lemmas.Bool.{eqb-true, eq-eqb, not-true}
 use Rattle.std.proofs.lemmas.List.{nil_from_length}
 use Rattle.std.proofs.lemmas.List.Elements.{All-from_recursion}
 use Rattle.std.proofs.lemmas.List.Splits.{slice_split_at, slice_split_none, join_with_byte-slice_split}
@@ -11,7 +11,8 @@ use Rattle.hy_text.proofs.Pieces.{lines_of-cut, lines_of-none}
 
 -- ---- a row is read again
 
-abbrev Lacks : ℕ → List ℕ → Type 0
+-- no byte of these is the separator
+abbrev pub Lacks : ℕ → List ℕ → Type 0
 Lacks c bytes = AllByRecursion (λ b. eqb b c ≡ false) bytes
 
 lacks_feed : (word : List ℕ) → is_word word ≡ true → Lacks 10 word
@@ -37,17 +38,21 @@ lacks-join (word ∷ next ∷ row) is =
     let parts = and_both (is_word word) (list_all is_word (next ∷ row)) is in
     lacks-append 10 word (32 ∷ join_with_byte 32 (next ∷ row)) (lacks_feed word parts.0) (refl, lacks-join (next ∷ row) parts.1)
 
-words_of-join : (word : List ℕ) (row : List (List ℕ)) → list_all is_word (word ∷ row) ≡ true → words_of (join_with_byte 32 (word ∷ row)) ≡ word ∷ row
-words_of-join word [] is = slice_split_none (λ b. eqb b 32) word (All-from_recursion _ word (lacks_space word (and_both (is_word word) true is).0))
-words_of-join word (next ∷ row) is =
-    let parts = and_both (is_word word) (list_all is_word (next ∷ row)) is in
-    slice_split_at (λ b. eqb b 32) word 32 (join_with_byte 32 (next ∷ row)) (All-from_recursion _ word (lacks_space word parts.0)) refl
-    ∙ ap (λ (ws : List (List ℕ)). word ∷ ws) (words_of-join next row parts.1)
+-- words that lack the separator are the pieces between separators
+pub pieces_at-join : (c : ℕ) (word : List ℕ) (words : List (List ℕ)) → AllByRecursion (Lacks c) (word ∷ words) → pieces_at c (join_with_byte c (word ∷ words)) ≡ word ∷ words
+pieces_at-join c word [] lack = slice_split_none (λ b. eqb b c) word (All-from_recursion _ word lack.0)
+pieces_at-join c word (next ∷ words) lack =
+    slice_split_at (λ b. eqb b c) word c (join_with_byte c (next ∷ words)) (All-from_recursion _ word lack.0) (eq-eqb c c refl)
+    ∙ ap (λ (ws : List (List ℕ)). word ∷ ws) (pieces_at-join c next words lack.1)
+
+words_lack_space : (row : List (List ℕ)) → list_all is_word row ≡ true → AllByRecursion (Lacks 32) row
+words_lack_space [] is = tt
+words_lack_space (word ∷ row) is = let parts = and_both (is_word word) (list_all is_word row) is in (lacks_space word parts.0, words_lack_space row parts.1)
 
 -- the words of a row that is written are the words of the row
 pub words_of-row : (row : List (List ℕ)) → is_row row ≡ true → words_of (join_with_byte 32 row) ≡ row
 words_of-row [] is = absurd cc
-words_of-row (word ∷ row) is = words_of-join word row is
+words_of-row (word ∷ row) is = pieces_at-join 32 word row (words_lack_space (word ∷ row) is)
 
 all_words : (row : List (List ℕ)) → is_row row ≡ true → list_all is_word row ≡ true
 all_words [] is = refl

@@ -28,7 +28,7 @@ pub end_takes : (words : List (List ℕ)) (u : Unit {0}) → end_of words ≡ Ok
 end_takes [] u e = refl
 end_takes (word ∷ words) u e = absurd cc
 
--- a word that is not empty stands in front of those behind it
+-- a word that is not empty stands in front of those after it
 pub words_from_first : (words : List (List ℕ)) (word : List ℕ) → first_word words ≡ word → 0 < length word → words ≡ word ∷ later_words words
 words_from_first [] word e some = absurd (omega (arith, ap length e))
 words_from_first (first ∷ words) word e some = ap (λ (w : List ℕ). w ∷ words) e
@@ -38,9 +38,9 @@ pub chosen : {A E : Type 0} (b : Bool) (here other : Result A E) (x : A) → con
 chosen true here other x e = inl (refl, e)
 chosen false here other x e = inr e
 
--- the keyword stands in front of the words behind it
-pub behind : (words : List (List ℕ)) (keyword : List ℕ) → bytes_eq (first_word words) keyword ≡ true → 0 < length keyword → words ≡ keyword ∷ later_words words
-behind words keyword e some = words_from_first words keyword ((bytes_eq-Decides (first_word words) keyword).0 e) some
+-- the keyword stands in front of the words after it
+pub keyword_first : (words : List (List ℕ)) (keyword : List ℕ) → bytes_eq (first_word words) keyword ≡ true → 0 < length keyword → words ≡ keyword ∷ later_words words
+keyword_first words keyword e some = words_from_first words keyword ((bytes_eq-Decides (first_word words) keyword).0 e) some
 
 -- a line that is not at fault has its end
 pub ended_ok : (ended : Bool) (u : Unit {0}) → end_of_line ended ≡ Ok u → ended ≡ true

@@ -1,4 +1,4 @@
--- Words behind the first of a line, joined.
+-- Words after the first of a line, joined.
 use Rattle.std.proofs.Common.{◌≡◌, ℕ, List, [], ◌∷◌, ◌++◌, refl, ap, sym, ◌∙◌, append_assoc, append-nil}
 use Rattle.std.specs.List.{join_with_byte}
 use Rattle.hy_text.specs.Line.{led_by, line_text, spaced}

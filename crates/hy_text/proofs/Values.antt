@@ -55,7 +55,7 @@ all_parts high low digits all =
     let two = and_both (is_lower_digit low) (list_all is_lower_digit digits) one.1 in
     (one.0, two.0, two.1)
 
--- the rest behind the first elements, as a slice pattern binds it
+-- the rest after the first elements, as a slice pattern binds it
 pub later_is : (xs : List ℕ) (n : ℕ) → take (length xs - n) (drop n xs) ≡ drop n xs
 later_is xs n = take_all (length xs - n) (drop n xs) (omega (arith, length-drop n xs))
 

@@ -3,6 +3,7 @@ use Rattle.std.specs.Prelude.{ℕ, ◌+◌, min, List, Option, Some, None, Resul
 use Rattle.hy_base.specs.Results as results
 use Rattle.hy_base.specs.declared.fault.Cause.{Cause}
 use Rattle.hy_base.specs.declared.fault.TextFault.{TextFault}
+use Rattle.hy_base.specs.declared.limits.TheConstants.{MAX_LINE}
 use Rattle.hy_base.specs.declared.fault.TextError.{TextError}
 use Rattle.hy_base.specs.declared.fault.TextError.TheVariants as text
 use Rattle.hy_text.specs.declared.error.LineError.{LineError}
@@ -26,22 +27,22 @@ abbrev pub TakesExactly : {A : Type 0} → Result A Cause → List (List ℕ) �
 TakesExactly result left due = results.Gives (λ cause. Some cause) (λ x. (x, left)) result due
 
 -- the fault that an error of a text tells; want of memory tells none
-abbrev pub fault_of : TextError → Option TextFault
-fault_of (text.Fault fault) = Some fault
-fault_of text.NoMemory = None
+abbrev pub text_fault_of : TextError → Option TextFault
+text_fault_of (text.Fault fault) = Some fault
+text_fault_of text.NoMemory = None
 
 -- a reader of a text gives the value or the fault that the definition answers, unless memory ran out
 abbrev pub GivesText : {A : Type 0} → Result A TextError → Result A TextFault → Type 0
-GivesText result due = results.Gives fault_of (λ x. x) result due
+GivesText result due = results.Gives text_fault_of (λ x. x) result due
 
 -- what a line gives, with its number where it is at fault
 abbrev pub at_line : {A : Type 0} → ℕ → Result A Cause → Result A TextFault
 at_line number (Ok x) = Ok x
 at_line number (Err cause) = Err (record { line = number; cause = cause })
 
--- the number of the line behind the line of a number; at the last number it stands still
+-- the number of the line after the line of a number; at the last number it stands still
 abbrev pub next_number : ℕ → ℕ
-next_number number = min (number + 1) 4294967295
+next_number number = min (number + 1) MAX_LINE
 
 -- the error of a line as the error of the text
 abbrev pub text_error : ℕ → LineError → TextError

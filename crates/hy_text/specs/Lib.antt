@@ -2,5 +2,12 @@ pub use Rattle.hex.specs.Hex
 pub mod Line
 pub mod Seen
 pub mod Slot
+pub mod Table
+pub mod Stamp
+pub mod Action
+pub mod Phase
+pub mod Clouds
 pub mod Gives
 pub mod Cause
+pub mod OpenLine
+pub mod Kind

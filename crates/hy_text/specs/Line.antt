@@ -18,7 +18,7 @@ abbrev pub led_by : ℕ → List (List ℕ) → List ℕ
 led_by separator [] = []
 led_by separator (word ∷ words) = separator ∷ word ++ led_by separator words
 
--- each word with a space before it, as behind the first of a line
+-- each word with a space before it, as after the first of a line
 abbrev pub spaced : List (List ℕ) → List ℕ
 spaced words = led_by 32 words
 
@@ -45,7 +45,7 @@ is_row (word ∷ row) = is_word word && list_all is_word row
 
 -- ---- the reader's side
 
--- what stands before, between and behind the bytes that separate
+-- what stands before, between and after the bytes that separate
 abbrev pub pieces_at : ℕ → List ℕ → List (List ℕ)
 pieces_at separator bytes = slice_split (λ b. b == separator) bytes
 
@@ -75,7 +75,7 @@ abbrev pub first_word : List (List ℕ) → List ℕ
 first_word [] = []
 first_word (word ∷ words) = word
 
--- the words behind the first
+-- the words after the first
 abbrev pub later_words : List (List ℕ) → List (List ℕ)
 later_words [] = []
 later_words (word ∷ words) = words

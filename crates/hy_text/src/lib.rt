@@ -1,23 +1,37 @@
 //! What every text of the store stands on: lines, words, the slots of a line, and the printed forms of numbers and values.
 #![tactic(auto)]
 
+mod action;
 mod cause;
+mod clouds;
+mod cursor;
 mod error;
 mod key;
+mod kind;
 mod line;
 mod number;
+mod phase;
+mod stamp;
+mod table;
 mod value;
 mod word;
 mod writing;
 
+pub use action::{Verb, push_action, read_action};
 pub use cause::cause_name;
+pub use clouds::{push_clouds, read_clouds};
+pub use cursor::{Cursor, OpenLine};
 pub use error::LineError;
 pub use key::{push_key, read_key};
+pub use kind::{LineKind, read_line, read_lines};
 pub use line::{Line, Lines, check_line_end};
 pub use number::{push_number, read_number, read_u32};
+pub use phase::read_phase;
+pub use stamp::{push_stamp, read_stamp};
+pub use table::{Named, read_named};
 pub use value::{push_value, read_value};
 pub use word::{Words, read_keyword};
-pub use writing::{push_number_word, push_value_word, push_word};
+pub use writing::{push_number_word, push_numbers, push_value_word, push_word};
 
 #[cfg(test)]
 mod tests;

@@ -20,7 +20,7 @@ pub struct Line<'a> {
 impl<'a> Line<'a> {
     ghost use Rattle.hy_text.specs.Seen.{line_seen};
 
-    /// The first line of the text and what stands behind it, where the text has a line.
+    /// The first line of the text and what stands after it, where the text has a line.
     fn first_of(text: &'a [u8]) -> Option<(Line<'a>, &'a [u8])>
         ensures { MatchOption result (lines_of text.now ≡ [])
             (λ split. lines_of text.now ≡ line_seen split.0 ∷ lines_of split.1.now) }

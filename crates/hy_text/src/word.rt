@@ -25,18 +25,18 @@ impl<'a> Model for Words<'a> {
 }
 
 /// Where the first separator stands.
-fn place_of(separator: u8, bytes: &[u8]) -> Option<usize>
+fn separator_place(separator: u8, bytes: &[u8]) -> Option<usize>
     ensures { result ≡ position (λ b. b == separator) bytes.now }
 {
     bytes.iter().position(|byte| *byte == separator)
 }
 
-/// The bytes before the first separator and those behind it, or nothing where none stands in the bytes.
+/// The bytes before the first separator and those after it, or nothing where none stands in the bytes.
 pub(crate) fn cut_at(separator: u8, bytes: &[u8]) -> Option<(&[u8], &[u8])>
     ensures { MatchOption result (pieces_at separator bytes.now ≡ bytes.now ∷ [])
         (λ parts. pieces_at separator bytes.now ≡ parts.0.now ∷ pieces_at separator parts.1.now) }
 {
-    match place_of(separator, bytes) {
+    match separator_place(separator, bytes) {
         Some(end) => Some((&bytes[..end], &bytes[end + 1..])),
         None => None,
     }

@@ -21,7 +21,7 @@ use Rattle.hy_protocol.specs.Operations.{key_of, write_plan, replied}
 use Rattle.hy_trace.specs.Trace.{IsIdle, Fits, IsTrace}
 pub use Rattle.hy_theorems.specs.Writing.{IsWriting}
 use Rattle.hy_trace.proofs.Growth.{some-is, Le, top, or-first, or-cases, start-now, start-same, inputs-step}
-use Rattle.hy_theorems.proofs.Writes.{update-own}
+use Rattle.hy_theorems.proofs.Writes.{key_of-write, update-own}
 use Rattle.hy_trace.proofs.Heard.{has-told, inputs-heard}
 use Rattle.hy_theorems.proofs.Meaning.{IsReading, write_action}
 use Rattle.hy_theorems.proofs.Invariant.{IsCovered, trace-holds, told-reading}
@@ -127,10 +127,6 @@ own-above p t c o key x trace w =
     let above : Le (top w.start.before key) (stamp_of_record has.0) = subst (λ (s : Start). Le (top s.before key) (stamp_of_record has.0)) (start-same c o t reading.start w.start reading.began w.began) reading.above in
     let next = next-above (stamp_of_record has.0) x c has.2 in
     (stamp_le-lt (top w.start.before key) (stamp_of_record has.0) x above next.0, next.1)
-  where
-    key_of-write : (key : List ℕ) (value : Option (List ℕ)) → key_of (write_action key value) ≡ key
-    key_of-write key None = refl
-    key_of-write key (Some v) = refl
 
 has-keeps : (cue : Cue) (before : List Cue) (h : Option RecordValue) → first_has before ≡ Some h → first_has (cue ∷ before) ≡ Some h
 unfolding first_has
@@ -170,7 +166,7 @@ unfolding replied
 replied-write p c o key None inputs = refl
 replied-write p c o key (Some v) inputs = refl
 
--- a write whose client began another operation behind it is not above what the record was then
+-- a write whose client began another operation after it is not above what the record was then
 earlier-below : (p : Params) (t : List Deed) (c o n : ℕ) (key : List ℕ) (x : Timestamp) (u : Start) → IsTrace p t → (w : IsWriting p c o key x t) → n ≢ o → start_of c n t ≡ Some u → is_some (start_of c o u.before) ≡ true → Le x (top u.before key)
 unfolding reply_of
 earlier-below p t c o n key x u trace w apart began earlier =
@@ -189,10 +185,6 @@ earlier-below p t c o n key x u trace w apart began earlier =
     let next : stamp_upon c r.held ≡ Some x = ap (stamp_upon c) (same_Some r.held has.0 (sym lasts ∙ has.1)) ∙ has.2 in
     let of_key : IsCovered reply.0 (top u.before key) = subst (λ (k : List ℕ). IsCovered reply.0 (top u.before k)) (ap key_of action_is ∙ key_of-write key w.value) covered in
     subst (λ (y : Reply). IsCovered y (top u.before key)) (sym (r.done x next)) of_key
-  where
-    key_of-write : (key : List ℕ) (value : Option (List ℕ)) → key_of (write_action key value) ≡ key
-    key_of-write key None = refl
-    key_of-write key (Some v) = refl
 
 -- two writes of a key with one timestamp are one
 pub stamps-differ : (p : Params) (t : List Deed) (c o b n : ℕ) (key : List ℕ) (x : Timestamp) → IsTrace p t → IsWriting p c o key x t → IsWriting p b n key x t → (c ≡ b) × (o ≡ n)

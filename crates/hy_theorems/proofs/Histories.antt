@@ -22,7 +22,7 @@ use Rattle.hy_protocol.specs.Operations.{key_of, write_plan, replied}
 use Rattle.hy_trace.specs.Trace.{IsTrace}
 use Rattle.hy_theorems.specs.Writing.{write_action}
 use Rattle.hy_trace.specs.Points.{write_point}
-use Rattle.hy_trace.specs.Order.{Mark, is_behind, sorted_marks, is_done, is_done_return, write_mark, reply_mark, read_mark, mark_by, mark_of, op_of, number_of, linearization_of}
+use Rattle.hy_trace.specs.Order.{Mark, is_behind, sorted_marks, is_done, is_done_return, write_mark, reply_mark, read_mark, mark_by, mark_of, marks_of, op_of, number_of, linearization_of}
 use Rattle.hy_protocol.specs.Progress.{progress_of}
 use Rattle.hy_trace.specs.History.{Return, return_of, Begun, begun_of, end_of, operation_of, history_of}
 use Rattle.hy_trace.specs.Points.{version_made}
@@ -33,7 +33,9 @@ use Rattle.hy_theorems.proofs.Ordering.{all-sorted}
 use Rattle.hy_theorems.proofs.Points.{point-timely}
 use Rattle.hy_theorems.proofs.Values.{IsCollisionFree}
 use Rattle.hy_theorems.proofs.Told.{ArePutBytes}
-use Rattle.hy_theorems.proofs.Linear.{IsMarkOf, IsWriteMark, mark-is, begun-are, IsAmongBegun, begun-in, picked, write-done, real-time, reads-register}
+use Rattle.hy_theorems.proofs.Beginnings.{begun-are, IsAmongBegun, begun-in}
+use Rattle.hy_theorems.proofs.Marks.{IsMarkOf, IsWriteMark, mark-is, write-done}
+use Rattle.hy_theorems.proofs.Linear.{sorted-are, picked, real-time, reads-register}
 use Rattle.hy_theorems.proofs.Placed.{orders-same}
 use Rattle.hy_theorems.proofs.Replies.{is_read_reply, write-replies, reply-fits, phase-fits}
 use Rattle.hy_theorems.proofs.Listing.{IsIn, in-contains, in-map, in-reverse, all-reverse, all-over, reverse-more, numbered-more, found-numbered, listed-all, in-picked, in-sorted, IsOther, AreOther, other-sorted, other-distinct}
@@ -131,13 +133,7 @@ module _ (p : Params) (t : List Deed) (trace : IsTrace p t) (key : List ℕ) whe
   Is m = (b : Begun) × IsOf b m
 
   abbrev pub marks : List Mark
-  marks = filter_map (mark_of p t key) (begun_of t)
-
-  marks-are : AllByRecursion Is marks
-  marks-are = picked (mark_of p t key) (λ b. start_of b.client b.op t ≡ Some b.start) Is (begun_of t) (λ b m began is. (b, mark-is p t trace key b m began is)) (begun-are p t trace).0
-
-  sorted-are : AllByRecursion Is (sorted_marks is_behind marks)
-  sorted-are = all-sorted Is marks marks-are
+  marks = marks_of p t key
 
   -- each is of an operation that an order of the key may list
   of-key : (b : Begun) → key_of b.start.action ≡ key → IsTrue (is_of_key key (operation_of p t b))
@@ -172,7 +168,7 @@ module _ (p : Params) (t : List Deed) (trace : IsTrace p t) (key : List ℕ) whe
       (let b = all.0.0 in let of = all.0.1 in subst (λ (x : Operation). operation_at (history_of p t) x.number ≡ Some x) (sym of.op_is) (history-finds p t b of.began), found-all ms all.1)
 
   listed-is : listed (history_of p t) (map number_of (map op_of (sorted_marks is_behind marks))) ≡ map op_of (sorted_marks is_behind marks)
-  listed-is = listed-all (history_of p t) (map op_of (sorted_marks is_behind marks)) (found-all (sorted_marks is_behind marks) sorted-are)
+  listed-is = listed-all (history_of p t) (map op_of (sorted_marks is_behind marks)) (found-all (sorted_marks is_behind marks) (sorted-are p t trace key))
 
   -- no two marks are of operations with one number
   number-is : (b : Begun) (m : Mark) → IsOf b m → m.op.number ≡ length (begun_of b.start.before) + 1
@@ -276,7 +272,7 @@ module _ (p : Params) (t : List Deed) (trace : IsTrace p t) (key : List ℕ) whe
   stamp-linearization : IsShape p.f p.k → IsCollisionFree p t → ArePutBytes t → IsLinearization (history_of p t) key (map number_of (map op_of (sorted_marks is_behind marks)))
   stamp-linearization shape free bytes_only = record {
     complete = history-all (λ op. IsTrue (is_of_key key op && is_finished op.end) → Contains (map number_of (map op_of (sorted_marks is_behind marks))) op.number) p t trace complete-one;
-    members = members-are (sorted_marks is_behind marks) sorted-are;
+    members = members-are (sorted_marks is_behind marks) (sorted-are p t trace key);
     distinct = distinct-are;
     real_time = subst RespectsRealTime (sym listed-is) (real-time p t trace key);
     reads = subst (ReadsRegister None) (sym listed-is) (reads-register p t trace key shape free bytes_only);

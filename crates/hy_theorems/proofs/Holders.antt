@@ -77,13 +77,13 @@ by-holders p t key r shape liars value (inr of) =
     let n = cloud_count p.f p.k in
     let list = clouds_of r.clouds in
     let few : n ≤ 16 = omega (arith, shape.faults, shape.parts) in
-    let low : AllByRecursion (λ cloud. cloud < n) list = all-each (IsHolder p t key r.stamp of.0) (λ cloud. cloud < n) list (λ cloud h. h.0) of.3 in
+    let low : AllByRecursion (λ cloud. cloud < n) list = all-each (IsHolder p t key r.stamp of.value) (λ cloud. cloud < n) list (λ cloud h. h.0) of.holders in
     let same : list ≡ filter (λ cloud. bit_at r.clouds cloud == 1) (range_with_len 0 n) = clouds-within r.clouds n few low in
-    let enough : p.f + p.k ≤ length (filter (λ cloud. bit_at r.clouds cloud == 1) (range_with_len 0 n)) = subst (λ (xs : List ℕ). p.f + p.k ≤ length xs) same of.2 in
+    let enough : p.f + p.k ≤ length (filter (λ cloud. bit_at r.clouds cloud == 1) (range_with_len 0 n)) = subst (λ (xs : List ℕ). p.f + p.k ≤ length xs) same of.quorum in
     let honest : p.k ≤ length (filter (λ cloud. not (p.is_liar cloud)) list) = subst (λ (xs : List ℕ). p.k ≤ length (filter (λ cloud. not (p.is_liar cloud)) xs)) (sym same) (enough-honest p.is_liar (λ cloud. bit_at r.clouds cloud == 1) p.f p.k n liars enough) in
     let more : length (filter (λ cloud. not (p.is_liar cloud)) list) ≤ length (filter (holds_valid p t key r) list) =
     more-pass (λ cloud. not (p.is_liar cloud)) (holds_valid p t key r) list
-    (all-each (IsHolder p t key r.stamp of.0) (λ cloud. not (p.is_liar cloud) ≡ true → holds_valid p t key r cloud ≡ true) list (λ cloud h honest_. holder-passes p t key r of.0 list cloud shape of.1 h.0 h.1 honest_) of.3) in
+    (all-each (IsHolder p t key r.stamp of.value) (λ cloud. not (p.is_liar cloud) ≡ true → holds_valid p t key r cloud ≡ true) list (λ cloud h honest_. holder-passes p t key r of.value list cloud shape of.record_is h.0 h.1 honest_) of.holders) in
     omega (arith, honest, more)
 
 pub enough-holders : (p : Params) (t : List Deed) → IsTrace p t → IsShape p.f p.k → HasLiars p p.f → (key : List ℕ) (r : RecordValue) → record_after (served t) key ≡ Some r → is_tombstone r.kind ≡ false → p.k ≤ length (holders_of p t key r)

@@ -10,6 +10,8 @@ pub mod Durable
 pub mod Retrievable
 pub mod Ordering
 pub mod RealTime
+pub mod Beginnings
+pub mod Marks
 pub mod Linear
 pub mod Points
 pub mod Listing
@@ -26,3 +28,5 @@ pub mod Overwritten
 pub mod ReadPoints
 pub mod Placed
 pub mod Rereads
+pub mod Premises
+pub mod Within

@@ -182,7 +182,7 @@ pub all-weaken : {A : Type 0} (P Q : A → Type 0) (xs : List A) → ((x : A) �
 all-weaken P Q [] each all = tt
 all-weaken P Q (x ∷ xs) each all = (each x all.0, all-weaken P Q xs each all.1)
 
--- what holds of the inputs, and of one input more, holds behind a deed
+-- what holds of the inputs, and of one input more, holds after a deed
 inputs-keep : (p : Params) (c o : ℕ) (d : Deed) (t : List Deed) (P : List Cue → Type 0) → Fits p t d → ((cue : Cue) (before : List Cue) → P before → P (cue ∷ before)) → P (inputs_of c o t) → P (inputs_of c o (d ∷ t))
 inputs-keep p c o d t P fits more holds =
     elim (inputs-step p c o d t fits) [
@@ -212,7 +212,7 @@ putting-keeps p c o cloud k s bytes d t fits u = record {
   bytes_are = u.bytes_are;
 }
 
-or-true : (a b : Bool) → b ≡ true → (a || b) ≡ true
+pub or-true : (a b : Bool) → b ≡ true → (a || b) ≡ true
 or-true true b is = refl
 or-true false b is = is
 

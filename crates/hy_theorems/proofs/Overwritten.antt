@@ -18,21 +18,14 @@ use Rattle.hy_trace.specs.Deeds.{Params, Deed, Joined, Began, Handed, Served, Gr
 use Rattle.hy_trace.specs.Messages.{Ask}
 use Rattle.hy_trace.specs.Trace.{IsTrace}
 use Rattle.hy_trace.specs.Points.{Point, Update, update_by, update_at, passing, first_update, is_own, overwrites, just_before, point_by, write_point, was_applied}
-use Rattle.hy_trace.proofs.Growth.{Le, le-trans, top, or-cases, start-same}
+use Rattle.hy_trace.proofs.Growth.{or-none, zero_stamp, zero-least, Le, le-trans, top, or-cases, start-same}
 use Rattle.hy_theorems.specs.Writing.{IsWriting, write_action}
-use Rattle.hy_theorems.proofs.Writes.{update-own}
+use Rattle.hy_theorems.proofs.Writes.{key_of-write, update-own}
 use Rattle.hy_theorems.proofs.Meaning.{IsAsked, IsUpdating, asked-sent, asked-keeps, asked-below, applied-keeps}
 use Rattle.hy_theorems.proofs.Speaking.{record-asked}
 use Rattle.hy_theorems.proofs.Invariant.{trace-holds, update-same, write_action-same}
 use Rattle.hy_theorems.proofs.Apart.{own-above, stamps-differ}
 use Rattle.hy_theorems.proofs.TopAt.{top_at, at-end, at-most, at-rises, serves-or-not, IsServedUpdate, update_now, first-served, first-keeps, asked-first, FirstAbove, first-above}
-
-abbrev pub zero_stamp : Timestamp
-zero_stamp = record { sn = 0; cid = 0 }
-
-pub zero-least : (s : Timestamp) → Le zero_stamp s
-unfolding stamp_lt
-zero-least s = grind (arith, nat_tests)
 
 -- what is not above, and another, is below
 below-other : (a b : Timestamp) → Le a b → (a ≡ b → ⊥) → stamp_lt a b ≡ true
@@ -50,10 +43,6 @@ pub first-true : (a b : Bool) → b ≡ false → (a || b) ≡ true → a ≡ tr
 first-true true b fails is = refl
 first-true false b fails is = absurd (both_ways b fails is)
 
-or-none : {A : Type 0} (a : Option A) → a ≡ option_or a None
-or-none None = refl
-or-none (Some x) = refl
-
 -- an update that was applied had been served
 pub applied-asked : (requests : List MetaAsk) (c o : ℕ) → was_applied requests c o ≡ true → (k : List ℕ) × (r : RecordValue) × IsAsked requests (asks.Update c o k r)
 unfolding was_applied
@@ -70,10 +59,6 @@ applied-asked (asks.Update b n k r ∷ before) c o is =
           let own = both (b == c) (n == o) tests.0 in
           (k, r, inl (ap (λ (x : ℕ). asks.Update x n k r) (eqb-true b c own.0) ∙ ap (λ (x : ℕ). asks.Update c x k r) (eqb-true n o own.1)))
     ]
-
-key_of-write : (key : List ℕ) (value : Option (List ℕ)) → key_of (write_action key value) ≡ key
-key_of-write key None = refl
-key_of-write key (Some v) = refl
 
 -- the updates of an operation are one
 updates-one : (p : Params) (t : List Deed) (c o : ℕ) (j k : List ℕ) (q r : RecordValue) → IsUpdating p c o j q t → IsUpdating p c o k r t → (j ≡ k) × (q ≡ r)
@@ -99,16 +84,16 @@ module _ (p : Params) (c o : ℕ) where
   pub first-applied : (t : List Deed) (u : Update) → IsTrace p t → first_update (is_own c o) t ≡ Some u → was_applied (served t) c o ≡ true → u.is_applied ≡ true
   unfolding IsTrace served first_update was_applied
   first-applied [] u trace first is = absurd (none-some u first)
-  first-applied (Joined ∷ t) u trace first is = first-applied t u trace.1 (or-none (first_update (is_own c o) t) ∙ first) is
-  first-applied (Began b n a ∷ t) u trace first is = first-applied t u trace.1 (or-none (first_update (is_own c o) t) ∙ first) is
-  first-applied (Handed b n made cue ∷ t) u trace first is = first-applied t u trace.1 (or-none (first_update (is_own c o) t) ∙ first) is
-  first-applied (Granted ask ∷ t) u trace first is = first-applied t u trace.1 (or-none (first_update (is_own c o) t) ∙ first) is
-  first-applied (Stopped b ∷ t) u trace first is = first-applied t u trace.1 (or-none (first_update (is_own c o) t) ∙ first) is
-  first-applied (Nothing ∷ t) u trace first is = first-applied t u trace.1 (or-none (first_update (is_own c o) t) ∙ first) is
-  first-applied (Served (asks.Read b n k) ∷ t) u trace first is = first-applied t u trace.1 (or-none (first_update (is_own c o) t) ∙ first) is
-  first-applied (Served (asks.Watch b n k s) ∷ t) u trace first is = first-applied t u trace.1 (or-none (first_update (is_own c o) t) ∙ first) is
-  first-applied (Served (asks.Olds b n k) ∷ t) u trace first is = first-applied t u trace.1 (or-none (first_update (is_own c o) t) ∙ first) is
-  first-applied (Served (asks.Forget b n k ss) ∷ t) u trace first is = first-applied t u trace.1 (or-none (first_update (is_own c o) t) ∙ first) is
+  first-applied (Joined ∷ t) u trace first is = first-applied t u trace.1 (sym (or-none (first_update (is_own c o) t)) ∙ first) is
+  first-applied (Began b n a ∷ t) u trace first is = first-applied t u trace.1 (sym (or-none (first_update (is_own c o) t)) ∙ first) is
+  first-applied (Handed b n made cue ∷ t) u trace first is = first-applied t u trace.1 (sym (or-none (first_update (is_own c o) t)) ∙ first) is
+  first-applied (Granted ask ∷ t) u trace first is = first-applied t u trace.1 (sym (or-none (first_update (is_own c o) t)) ∙ first) is
+  first-applied (Stopped b ∷ t) u trace first is = first-applied t u trace.1 (sym (or-none (first_update (is_own c o) t)) ∙ first) is
+  first-applied (Nothing ∷ t) u trace first is = first-applied t u trace.1 (sym (or-none (first_update (is_own c o) t)) ∙ first) is
+  first-applied (Served (asks.Read b n k) ∷ t) u trace first is = first-applied t u trace.1 (sym (or-none (first_update (is_own c o) t)) ∙ first) is
+  first-applied (Served (asks.Watch b n k s) ∷ t) u trace first is = first-applied t u trace.1 (sym (or-none (first_update (is_own c o) t)) ∙ first) is
+  first-applied (Served (asks.Olds b n k) ∷ t) u trace first is = first-applied t u trace.1 (sym (or-none (first_update (is_own c o) t)) ∙ first) is
+  first-applied (Served (asks.Forget b n k ss) ∷ t) u trace first is = first-applied t u trace.1 (sym (or-none (first_update (is_own c o) t)) ∙ first) is
   first-applied (Served (asks.Update b n k r) ∷ t) u trace first is =
       elim (cases_bool (was_applied (served t) c o)) [
         | inl earlier ↦

@@ -35,7 +35,9 @@ use Rattle.hy_theorems.proofs.RealTime.{return-reply, stamp_of_reply, answer-sta
 use Rattle.hy_theorems.proofs.Replies.{done-heard}
 use Rattle.hy_theorems.proofs.Ordering.{Before, IsBehind, behind-before, parts-before, all-sorted, Differs}
 use Rattle.hy_theorems.proofs.Points.{answered-version}
-use Rattle.hy_theorems.proofs.Linear.{behind-lt, behind-le, IsMarkOf, IsWriteMark, IsReadMark, mark-is, mark-writing, marks-differ, begun-are, AreOthers, picked, all-pairs, as-read}
+use Rattle.hy_theorems.proofs.Beginnings.{AreOthers, begun-are}
+use Rattle.hy_theorems.proofs.Marks.{behind-lt, behind-le, as-read, IsMarkOf, IsWriteMark, IsReadMark, mark-is, mark-writing, marks-differ}
+use Rattle.hy_theorems.proofs.Linear.{picked, all-pairs}
 use Rattle.hy_theorems.proofs.TopAt.{top_at, at-rises, asked-first}
 use Rattle.hy_theorems.proofs.Overwritten.{IsWrittenAt, written-at, applied-asked, first-true}
 use Rattle.hy_theorems.proofs.ReadPoints.{IsReadAt, version-at, reply-version}
@@ -94,7 +96,6 @@ same-point a b first second = by_tests a.is_just_before b.is_just_before refl re
     by_tests false false x_is y_is e f = (grind (arith, nat_tests), x_is ∙ sym y_is)
     by_tests true false x_is y_is e f = absurd (grind (arith, nat_tests))
     by_tests false true x_is y_is e f = absurd (grind (arith, nat_tests))
-
 
 module _ (t : List Deed) (key : List ℕ) where
   -- a read does not stand at the point of a write of its timestamp
@@ -188,12 +189,15 @@ module _ (p : Params) (t : List Deed) (trace : IsTrace p t) (key : List ℕ) whe
       by_test false applied None returned listed = absurd (both_ways false refl listed)
       by_test false applied (Some r) returned listed = by_done r returned (first-true (is_done r.reply) false refl listed)
 
+  pub written : (b : Begun) (m : Mark) → (of : IsMarkOf p t trace key b m) → (w : IsWriteMark p t trace key b m) → IsWrittenAt t key m.stamp m.point
+  written b m of w =
+      let u = written-first b m of w in
+      subst (λ (x : Point). IsWrittenAt t key m.stamp x) (sym w.point_is) (written-at p t trace b.client b.op key m.stamp (mark-writing p t trace key b m of w) u.0 u.1)
+
   pub placed : (b : Begun) (m : Mark) → IsMarkOf p t trace key b m → IsPlaced t key m
   placed b m of =
       elim of.sort [
-        | inl write ↦
-            let u = written-first b m of write in
-            inl (write.reads_is, subst (λ (x : Point). IsWrittenAt t key m.stamp x) (sym write.point_is) (written-at p t trace b.client b.op key m.stamp (mark-writing p t trace key b m of write) u.0 u.1))
+        | inl write ↦ inl (write.reads_is, written b m of write)
         | inr read ↦ inr (read.reads_is, ap (λ (x : Point). x.is_just_before) read.point_is, by_read read)
       ]
     where
@@ -216,11 +220,12 @@ module _ (p : Params) (t : List Deed) (trace : IsTrace p t) (key : List ℕ) whe
       by_first : (o : Option Mark) → mark_of p t key b ≡ o → AllAgree (filter_map (mark_of p t key) ops) → AllAgree (cons_option o (filter_map (mark_of p t key) ops))
       by_first None is rest = rest
       by_first (Some m) is rest =
-          let here = mark-is p t trace key b m began.0 is in
-          (picked (mark_of p t key) (λ a. (start_of a.client a.op t ≡ Some a.start) × ((b.client ≡ a.client) × (b.op ≡ a.op) → ⊥)) (Agrees m) ops
-              (λ a n known other. (let there = mark-is p t trace key a n known.0 other in same-order t key m n (placed b m here) (placed a n there) (marks-differ p t trace key b a m n here there known.1)))
-              (all-pairs (λ a. start_of a.client a.op t ≡ Some a.start) (λ a. (b.client ≡ a.client) × (b.op ≡ a.op) → ⊥) ops began.1 others.0),
-          rest)
+          let here = mark-is p t trace key b m began.0 is in (
+            picked (mark_of p t key) (λ a. (start_of a.client a.op t ≡ Some a.start) × ((b.client ≡ a.client) × (b.op ≡ a.op) → ⊥)) (Agrees m) ops
+                (λ a n known other. (let there = mark-is p t trace key a n known.0 other in same-order t key m n (placed b m here) (placed a n there) (marks-differ p t trace key b a m n here there known.1)))
+                (all-pairs (λ a. start_of a.client a.op t ≡ Some a.start) (λ a. (b.client ≡ a.client) × (b.op ≡ a.op) → ⊥) ops began.1 others.0),
+            rest,
+          )
 
   -- the order by points is the order by timestamps
   pub orders-same : sorted_marks is_later (marks_of p t key) ≡ sorted_marks is_behind (marks_of p t key)

@@ -78,15 +78,15 @@ start-short c o d t s began =
       | inr now ↦ (let e = ap (λ (x : List Deed). length x) (start-now c o d t s now.1) in omega (arith, e))
     ]
 
--- an answer to an operation was made behind its beginning
-sent-behind : (p : Params) (t : List Deed) (w c o : ℕ) (k : List ℕ) (r : Option RecordValue) (s : Start) → IsTrace p t → IsSentAt p t w (Say (says.Has c o k r)) → start_of c o t ≡ Some s → length s.before < w
+-- an answer to an operation was made after it began
+sent-after : (p : Params) (t : List Deed) (w c o : ℕ) (k : List ℕ) (r : Option RecordValue) (s : Start) → IsTrace p t → IsSentAt p t w (Say (says.Has c o k r)) → start_of c o t ≡ Some s → length s.before < w
 unfolding IsTrace IsSentAt
-sent-behind p [] w c o k r s trace sent began = absurd sent
-sent-behind p (d ∷ t) w c o k r s trace (inl now) began = (let le = start-short c o d t s began in let at = now.0 in omega (arith, le, at))
-sent-behind p (d ∷ t) w c o k r s trace (inr was) began =
+sent-after p [] w c o k r s trace sent began = absurd sent
+sent-after p (d ∷ t) w c o k r s trace (inl now) began = (let le = start-short c o d t s began in let at = now.0 in omega (arith, le, at))
+sent-after p (d ∷ t) w c o k r s trace (inr was) began =
     let reading : IsReading c o k r t = (trace-holds p t trace.1).said (Say (says.Has c o k r)) (at-sent p t w (Say (says.Has c o k r)) was) in
     let same : reading.start ≡ s = same_Some reading.start s (sym (start-keeps c o d t reading.start reading.began) ∙ began) in
-    subst (λ (x : Start). length x.before < w) same (sent-behind p t w c o k r reading.start trace.1 was reading.began)
+    subst (λ (x : Start). length x.before < w) same (sent-after p t w c o k r reading.start trace.1 was reading.began)
 
 pub made-has : (p : Params) (t : List Deed) (w c o : ℕ) (key : List ℕ) (cue : Cue) (r : Option RecordValue) → has_of cue ≡ Some r → addresses c o key cue ≡ true → IsMade p t w cue → IsSentAt p t w (Say (says.Has c o key r))
 unfolding addresses
@@ -148,7 +148,7 @@ version-late p c o (d ∷ t) trace s began v is =
           let began_ : start_of c o t ≡ Some s = one.awaits.began ∙ ap Some start_is in
           rw one.version
           (newest one.made one.cue (inputs_of c o t) v (λ n. length s.before < n) (version_made c o t) (ap version_of (sym one.inputs) ∙ is)
-          (λ r tells. sent-behind p t one.made c o (key_of one.awaits.start.action) r s trace.1 (made-has p t one.made c o (key_of one.awaits.start.action) one.cue r tells one.awaits.own one.is_made) began_)
+          (λ r tells. sent-after p t one.made c o (key_of one.awaits.start.action) r s trace.1 (made-has p t one.made c o (key_of one.awaits.start.action) one.cue r tells one.awaits.own one.is_made) began_)
           (λ u was. version-late p c o t trace.1 s began_ u was))
     ]
   where

@@ -23,7 +23,7 @@ use Rattle.hy_theorems.proofs.Apart.{start-trace, start-lasts}
 use Rattle.hy_trace.proofs.Steps.{HasReplied, has-replied, has-keeps}
 use Rattle.hy_theorems.proofs.Told.{read-answered}
 
-returned-within : (p : Params) (c o : ℕ) (t : List Deed) (r : Return) → return_of p c o t ≡ Some r → r.at ≤ length t
+pub returned-within : (p : Params) (c o : ℕ) (t : List Deed) (r : Return) → return_of p c o t ≡ Some r → r.at ≤ length t
 unfolding return_of
 returned-within p c o [] r is = absurd (none-some r is)
 returned-within p c o (d ∷ t) r is =

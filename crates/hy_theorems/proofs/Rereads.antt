@@ -22,8 +22,12 @@ use Rattle.hy_code.specs.declared.pick.Pick.{Pick}
 use Rattle.hy_protocol.specs.declared.plan.GetPlan.{GetPlan}
 use Rattle.hy_protocol.specs.Inputs.{has_of, is_fired, is_tick}
 use Rattle.hy_protocol.specs.Read.{Version, newer_version, version_of, first_valid, valid_picks, failed_attempts, answer_for, answer_of, read_reply, gets_from, watch_all, get_at, sends_at_rise, sends_since, first_gets, sends_to_version, read_sends, has_fired, supersedes, is_refresh, refresh_count}
-use Rattle.hy_trace.proofs.Growth.{or-first}
+use Rattle.hy_trace.proofs.Growth.{or-none, or-first}
 use Rattle.hy_theorems.specs.Refreshing.{asks_for_record, reads_sent_again}
+
+and-false : (b : Bool) → (b && false) ≡ false
+and-false true = refl
+and-false false = refl
 
 none-cond : (b : Bool) (xs ys : List Out) → filter asks_for_record xs ≡ [] → filter asks_for_record ys ≡ [] → filter asks_for_record (cond b xs ys) ≡ []
 none-cond true xs ys first second = first
@@ -72,10 +76,6 @@ has-not-fired cues.Tick r s is = refl
 not-superseded : (held : Option RecordValue) (since : List Cue) (cue : Cue) → ((s : Timestamp) → is_fired s cue ≡ false) → supersedes held since cue ≡ false
 not-superseded None since cue quiet = refl
 not-superseded (Some r) since cue quiet = rw (quiet r.stamp) (and-false (not (has_fired r since)))
-  where
-    and-false : (b : Bool) → (b && false) ≡ false
-    and-false true = refl
-    and-false false = refl
 
 version-count : (plan : GetPlan) (cue : Cue) (old : Option Version) (has : Option (Option RecordValue)) → has_of cue ≡ has → is_tick cue ≡ false → length (filter asks_for_record (sends_to_version plan cue old (newer_version old cue has))) ≡ cond (is_refresh old cue) 1 0
 version-count plan cue None None has_is untimed = rw untimed refl
@@ -92,10 +92,6 @@ version-count plan cue (Some v) (Some r) has_is untimed =
 picks-same : {A B : Type 0} (f g : A → Option B) (xs : List A) → ((x : A) → f x ≡ g x) → filter_map f xs ≡ filter_map g xs
 picks-same f g [] same = refl
 picks-same f g (x ∷ xs) same = ap (λ o. cons_option o (filter_map f xs)) (same x) ∙ ap (cons_option (g x)) (picks-same f g xs same)
-
-or-none : {A : Type 0} (a : Option A) → option_or a None ≡ a
-or-none None = refl
-or-none (Some x) = refl
 
 valid-same : (r : RecordValue) (say : MetaSay) (since : List Cue) → valid_picks r (cues.Meta say ∷ since) ≡ valid_picks r since
 unfolding valid_picks first_valid
@@ -143,10 +139,6 @@ tick-quiet cues.Tick None is = refl
 tick-quiet cues.Tick (Some v) is = not-superseded v.rec v.since cues.Tick (λ s. refl)
 tick-quiet (cues.Meta say) old is = absurd (both_ways false refl is)
 tick-quiet (cues.Cloud reply) old is = absurd (both_ways false refl is)
-
-and-false : (b : Bool) → (b && false) ≡ false
-and-false true = refl
-and-false false = refl
 
 reply-stays : (cue : Cue) (before : List Cue) (r : Reply) → read_reply before ≡ Some r → read_reply (cue ∷ before) ≡ Some r
 unfolding read_reply

@@ -186,7 +186,7 @@ module _ (p : Params) (t : List Deed) (trace : IsTrace p t) (shape : IsShape p.f
       let Listed : List ℕ → Type 0 = λ xs. (r ≡ value_record r.stamp v p.f p.k xs) × (quorum_size p.f p.k ≤ length xs) × AllByRecursion (IsHolder p t key r.stamp v) xs in
       let holders = all-both (λ cloud. cloud < cloud_count p.f p.k) (IsAcknowledged r.stamp (inputs_of c o t)) (IsHolder p t key r.stamp v) q.list (λ cloud within a. holder c o v u value_is cloud within a) (listed-low p v (inputs_of c o t) r q) q.acknowledged in
       let all : Listed (clouds_of r.clouds) = subst Listed (sym same) (q.is, q.enough, holders) in
-      inr (v, all.0, all.1, all.2)
+      inr (record { value = v; record_is = all.0; quorum = all.1; holders = all.2 })
 
   -- the record of a key is that of a delete, or its value can be retrieved
   pub retrievable : IsRetrievable p t key r

@@ -86,8 +86,9 @@ served-keeps d t u is =
       some = is.some;
       within = omega (arith, within);
       applied = λ applied. (
-          at-earlier d t u.key u.step within ∙ (is.applied applied).0,
-          λ n less. ap (λ (x : Timestamp). stamp_lt x u.stamp) (at-earlier d t u.key n (omega (arith, less, within))) ∙ (is.applied applied).1 n less);
+        at-earlier d t u.key u.step within ∙ (is.applied applied).0,
+        λ n less. ap (λ (x : Timestamp). stamp_lt x u.stamp) (at-earlier d t u.key n (omega (arith, less, within))) ∙ (is.applied applied).1 n less,
+      );
       refused = λ refused n e. subst (λ (x : Timestamp). Le u.stamp x) (sym (at-earlier d t u.key n (omega (arith, e, within)))) (is.refused refused n e);
     }
 
@@ -106,8 +107,9 @@ served-now c o k r t =
       some = omega arith;
       within = omega arith;
       applied = λ above. (
-          at-end (d ∷ t) k (length t + 1) (omega arith) ∙ applied-top (served t) c o k r above,
-          λ n less. ap (λ (x : Timestamp). stamp_lt x r.stamp) (at-earlier d t k n (omega (arith, less))) ∙ stamp_le-lt (top_at t k n) (top t k) r.stamp (at-most t k n) above);
+        at-end (d ∷ t) k (length t + 1) (omega arith) ∙ applied-top (served t) c o k r above,
+        λ n less. ap (λ (x : Timestamp). stamp_lt x r.stamp) (at-earlier d t k n (omega (arith, less))) ∙ stamp_le-lt (top_at t k n) (top t k) r.stamp (at-most t k n) above,
+      );
       refused = λ not_above n e. subst (λ (x : Timestamp). Le r.stamp x) (sym (at-earlier d t k n (omega (arith, e)) ∙ at-end t k n (omega (arith, e)))) not_above;
     }
 

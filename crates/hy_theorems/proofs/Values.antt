@@ -72,7 +72,7 @@ first-valid r cloud (cue ∷ before) bytes is =
       | inr now ↦ valid-now r cloud cue before bytes now.1
     ]
 
--- inputs behind the version are inputs
+-- inputs after the version are inputs
 pub since-inputs : (inputs : List Cue) (v : Version) (cue : Cue) → version_of inputs ≡ Some v → IsInput v.since cue → IsInput inputs cue
 unfolding version_of
 since-inputs [] v cue is input = absurd (none-some v is)

@@ -19,7 +19,13 @@ use Rattle.hy_protocol.specs.Inputs.{has_of, is_update_answer, is_tick}
 use Rattle.hy_protocol.specs.declared.plan.PutPlan.{PutPlan}
 use Rattle.hy_protocol.specs.Write.{sends_by, first_has, own_stamp, stamp_upon, value_record, record_with, record_at, acknowledging_clouds, update_of, done_by, exhausted_by, write_reply_at, write_reply, puts_to, earlier_sends, write_sends}
 use Rattle.hy_record.specs.Record.{tombstone}
+use Rattle.hy_protocol.specs.Operations.{key_of}
+use Rattle.hy_theorems.specs.Writing.{write_action}
 use Rattle.hy_trace.proofs.Growth.{or-first, or-cases}
+
+pub key_of-write : (key : List ℕ) (value : Option (List ℕ)) → key_of (write_action key value) ≡ key
+key_of-write key None = refl
+key_of-write key (Some v) = refl
 
 pub own-keeps : (plan : PutPlan) (cue : Cue) (before : List Cue) (s : Timestamp) → own_stamp plan before ≡ Some s → own_stamp plan (cue ∷ before) ≡ Some s
 unfolding own_stamp first_has

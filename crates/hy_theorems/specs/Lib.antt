@@ -3,3 +3,5 @@ pub mod Retrieval
 pub mod Starving
 pub mod Deleting
 pub mod Refreshing
+pub mod Rows
+pub mod Within

@@ -13,10 +13,17 @@ use Rattle.hy_trace.specs.Deeds.{Params, Deed, granted}
 
 -- a cloud of the store, which is Byzantine, or holds the value's fragment under the record's name
 abbrev pub IsHolder : Params → List Deed → List ℕ → Timestamp → List ℕ → ℕ → Type 0
-IsHolder p t key stamp value cloud = (cloud < cloud_count p.f p.k) × ((p.is_liar cloud ≡ true) ⊎ (bytes_held (granted cloud t) key stamp ≡ Some (fragment_of value p.k cloud)))
+IsHolder p t key stamp value cloud =
+    (cloud < cloud_count p.f p.k)
+    × ((p.is_liar cloud ≡ true) ⊎ (bytes_held (granted cloud t) key stamp ≡ Some (fragment_of value p.k cloud)))
 
--- the record is a delete's, or lists a quorum of clouds that hold the fragments of its put's value
+-- the record is that of a value, and lists a quorum of clouds that hold its fragments
+pub record ListsHolders (p : Params) (t : List Deed) (key : List ℕ) (r : RecordValue) : Type 0 where
+  pub value : List ℕ
+  pub record_is : r ≡ value_record r.stamp value p.f p.k (clouds_of r.clouds)
+  pub quorum : quorum_size p.f p.k ≤ length (clouds_of r.clouds)
+  pub holders : AllByRecursion (IsHolder p t key r.stamp value) (clouds_of r.clouds)
+
+-- the record is a delete's, or lists those that hold its value
 abbrev pub IsRetrievable : Params → List Deed → List ℕ → RecordValue → Type 0
-IsRetrievable p t key r =
-    (r.kind ≡ Tomb)
-    ⊎ ((value : List ℕ) × (r ≡ value_record r.stamp value p.f p.k (clouds_of r.clouds)) × (quorum_size p.f p.k ≤ length (clouds_of r.clouds)) × AllByRecursion (IsHolder p t key r.stamp value) (clouds_of r.clouds))
+IsRetrievable p t key r = (r.kind ≡ Tomb) ⊎ ListsHolders p t key r

@@ -16,7 +16,8 @@ pub record IsGet (client op : ℕ) (key : List ℕ) (start : Start) (t : List De
 
 -- each honest cloud of the record's list gave the read an answer for it
 abbrev pub IsStarved : Params → RecordValue → List Cue → Type 0
-IsStarved p r since = AllByRecursion (λ cloud. p.is_liar cloud ≡ false → list_any (is_answer (λ say. true) r.stamp cloud) since ≡ true) (clouds_of r.clouds)
+IsStarved p r since =
+    AllByRecursion (λ cloud. p.is_liar cloud ≡ false → list_any (is_answer (λ say. true) r.stamp cloud) since ≡ true) (clouds_of r.clouds)
 
 -- a get of the key that has no reply follows this record, and each honest cloud of the record's list has answered it
 pub record IsStarvedGet (p : Params) (client op : ℕ) (key : List ℕ) (r : RecordValue) (t : List Deed) : Type 0 where

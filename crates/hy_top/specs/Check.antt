@@ -1,5 +1,5 @@
--- What the check of a text comes to.
-use Rattle.std.specs.Prelude.{◌≡◌, ℕ, List, Some, Err, length}
+-- What the check of a text answers.
+use Rattle.std.specs.Prelude.{◌≡◌, ℕ, List, Some, Result, Ok, Err, length}
 use Rattle.hy_base.specs.declared.fault.TextFault.{TextFault}
 use Rattle.hy_order.specs.Linearization.{IsReportLinearizable}
 use Rattle.hy_order.specs.Report.{report_text}
@@ -9,8 +9,8 @@ use Rattle.hy_order.specs.Violation.{first_illegal}
 use Rattle.hy_order.specs.declared.verdict.Verdict.{Verdict}
 use Rattle.hy_order.specs.declared.report.Report.{Report}
 use Rattle.hy_top.specs.Line.{legal_line}
-use Rattle.hy_top.specs.declared.outcome.Outcome.{Outcome}
-use Rattle.hy_top.specs.declared.outcome.Outcome.TheVariants.{BadWords, ReadFault, TooLong, BadInput, Illegal, Done}
+use Rattle.hy_top.specs.declared.status.Status.{Status}
+use Rattle.hy_top.specs.declared.status.Status.TheVariants.{BadInput, Illegal, NoMemory}
 
 -- the text is that of a report in which each order is linearizable; the output tells how many orders there are
 pub record IsFoundLegal (text output : List ℕ) : Type 0 where
@@ -33,11 +33,10 @@ pub record IsNoReport (text : List ℕ) (fault : TextFault) : Type 0 where
   pub first : report_of text ≡ Err fault
   pub other : (report : Report) → IsReport report → text ≡ report_text report → ⊥
 
--- what the check of a text comes to
-abbrev pub Checks : List ℕ → Outcome → Type 0
-Checks text (Done output) = IsFoundLegal text output
-Checks text (Illegal key verdict) = IsFoundIllegal text key verdict
-Checks text (BadInput fault) = IsNoReport text fault
-Checks text BadWords = ⊥
-Checks text ReadFault = ⊥
-Checks text TooLong = ⊥
+-- what the check of a text answers
+abbrev pub Checks : List ℕ → Result (List ℕ) Status → Type 0
+Checks text (Ok output) = IsFoundLegal text output
+Checks text (Err (Illegal key verdict)) = IsFoundIllegal text key verdict
+Checks text (Err (BadInput fault)) = IsNoReport text fault
+Checks text (Err NoMemory) = Unit {0}
+Checks text (Err other) = ⊥

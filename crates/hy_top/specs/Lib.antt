@@ -1,9 +1,8 @@
 pub mod Status
 pub mod Command
-pub mod Call
 pub mod Input
 pub mod Replay
 pub mod Line
 pub mod Check
-pub mod Outcome
+pub mod Job
 pub mod Answer

@@ -1,9 +1,11 @@
--- The lines that tell an outcome.
+-- The lines that tell how a job went.
 use Rattle.std.specs.Prelude.{ℕ, List, [], ◌∷◌, codes}
 use Rattle.std.specs.Fmt.{decimal}
 use Rattle.hy_base.specs.declared.fault.TextFault.{TextFault}
 use Rattle.hy_text.specs.Cause.{cause_word}
 use Rattle.hy_text.specs.Line.{line_text}
+use Rattle.hy_top.specs.declared.status.Status.{Status}
+use Rattle.hy_top.specs.declared.status.Status.TheVariants.{BadInput, BadWords, ReadFault, TooLong, Illegal}
 use Rattle.hy_order.specs.declared.verdict.Verdict.{Verdict}
 use Rattle.hy_order.specs.declared.verdict.Verdict.TheVariants.{Legal, Missing, Stranger, Twice, Early, Wrong}
 
@@ -27,3 +29,12 @@ verdict_words (Wrong number) = codes "wrong" ∷ decimal number ∷ []
 -- the key of the first illegal order of a report, and the verdict on it
 abbrev pub illegal_line : List ℕ → Verdict → List ℕ
 illegal_line key verdict = line_text (codes "illegal" ∷ key ∷ verdict_words verdict)
+
+-- the line of a refusal; a status that is none has no line
+abbrev pub refusal_line : Status → List ℕ
+refusal_line BadWords = line_text (codes "bad" ∷ codes "words" ∷ [])
+refusal_line ReadFault = line_text (codes "read" ∷ codes "fault" ∷ [])
+refusal_line TooLong = line_text (codes "too" ∷ codes "long" ∷ [])
+refusal_line (BadInput fault) = bad_input_line fault
+refusal_line (Illegal key verdict) = illegal_line key verdict
+refusal_line other = []

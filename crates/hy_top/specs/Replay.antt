@@ -1,13 +1,13 @@
--- What the replay of a text comes to.
-use Rattle.std.specs.Prelude.{◌≡◌, ℕ, List, reverse, Err}
+-- What the replay of a text answers.
+use Rattle.std.specs.Prelude.{◌≡◌, ℕ, List, reverse, Result, Ok, Err}
 use Rattle.hy_base.specs.declared.fault.TextFault.{TextFault}
 use Rattle.hy_order.specs.Linearization.{IsReportLinearizable}
 use Rattle.hy_order.specs.Report.{report_text}
 use Rattle.hy_quiet.specs.Replay.{quiet_report}
 use Rattle.hy_quiet.specs.Schedule.{IsSchedule, IsQuiet, schedule_text, schedule_of}
 use Rattle.hy_quiet.specs.declared.event.Event.{Event}
-use Rattle.hy_top.specs.declared.outcome.Outcome.{Outcome}
-use Rattle.hy_top.specs.declared.outcome.Outcome.TheVariants.{BadWords, ReadFault, TooLong, BadInput, Illegal, Done}
+use Rattle.hy_top.specs.declared.status.Status.{Status}
+use Rattle.hy_top.specs.declared.status.Status.TheVariants.{BadInput, NoMemory}
 
 -- the text is that of a quiet schedule; the output is its report, in which each order is linearizable
 pub record IsReplayed (text output : List ℕ) : Type 0 where
@@ -22,11 +22,9 @@ pub record IsNoSchedule (text : List ℕ) (fault : TextFault) : Type 0 where
   pub first : schedule_of text ≡ Err fault
   pub other : ¬ IsQuiet text
 
--- what the replay of a text comes to
-abbrev pub Replays : List ℕ → Outcome → Type 0
-Replays text (Done output) = IsReplayed text output
-Replays text (BadInput fault) = IsNoSchedule text fault
-Replays text (Illegal key verdict) = ⊥
-Replays text BadWords = ⊥
-Replays text ReadFault = ⊥
-Replays text TooLong = ⊥
+-- what the replay of a text answers
+abbrev pub Replays : List ℕ → Result (List ℕ) Status → Type 0
+Replays text (Ok output) = IsReplayed text output
+Replays text (Err (BadInput fault)) = IsNoSchedule text fault
+Replays text (Err NoMemory) = Unit {0}
+Replays text (Err other) = ⊥

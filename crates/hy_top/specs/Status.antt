@@ -1,5 +1,9 @@
--- The exit status of the program.
+-- The exit status of the program, and the status of a stage that failed.
 use Rattle.std.specs.Prelude.{ℕ}
+use Rattle.hy_base.specs.declared.fault.TextError.{TextError}
+use Rattle.hy_base.specs.declared.fault.TextError.TheVariants as text
+use Rattle.hy_base.specs.declared.reading.ReadAllFault.{ReadAllFault}
+use Rattle.hy_base.specs.declared.reading.ReadAllFault.TheVariants as reading
 use Rattle.hy_top.specs.declared.status.Status.{Status}
 use Rattle.hy_top.specs.declared.status.Status.TheVariants.{Done, BadInput, BadWords, ReadFault, WriteFault, NoMemory, TooLong, Illegal}
 
@@ -13,3 +17,14 @@ exit_code WriteFault = 5
 exit_code NoMemory = 7
 exit_code TooLong = 8
 exit_code (Illegal key verdict) = 9
+
+-- the status where an input could not be read to its end
+abbrev pub status_of_reading : ReadAllFault → Status
+status_of_reading reading.ReadFault = ReadFault
+status_of_reading reading.TooLong = TooLong
+status_of_reading reading.NoMemory = NoMemory
+
+-- the status where a text could not be read
+abbrev pub status_of_text : TextError → Status
+status_of_text (text.Fault fault) = BadInput fault
+status_of_text text.NoMemory = NoMemory

@@ -2,13 +2,11 @@
 #![tactic(auto)]
 
 mod command;
-mod job;
 mod line;
-mod outcome;
 mod status;
+mod text_job;
 mod top;
 
-pub use outcome::Outcome;
 pub use status::Status;
 pub use top::run;
 

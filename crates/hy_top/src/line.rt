@@ -1,18 +1,33 @@
-//! The lines that tell an outcome.
+//! The lines that tell how a job went.
 
 ghost use Rattle.std.specs.Prelude.{◌≡◌, ◌∷◌, [], ◌++◌, IfOk, OnOk};
 ghost use Rattle.std.specs.Fmt.{decimal};
 ghost use Rattle.hy_text.specs.Line.{spaced};
-ghost use Rattle.hy_top.specs.Line.{bad_input_line, legal_line, illegal_line, verdict_words};
+ghost use Rattle.hy_top.specs.Line.{bad_input_line, legal_line, illegal_line, refusal_line, verdict_words};
 
+use crate::status::Status;
 use hy_base::{Blob, NoMemory, TextFault};
 use hy_order::Verdict;
 use hy_record::Key;
 use hy_text::{cause_name, push_number_word, push_word};
 use std::alloc::Global;
 
+/// The line of a refusal; a status that is none has no line.
+pub(crate) fn refusal_line(alloc: Global, status: &Status) -> Result<Blob, NoMemory>
+    ensures { IfOk result (λ text. text ≡ refusal_line status.now) }
+{
+    match status {
+        Status::BadWords => Blob::copy_of(alloc, b"bad words\n"),
+        Status::ReadFault => Blob::copy_of(alloc, b"read fault\n"),
+        Status::TooLong => Blob::copy_of(alloc, b"too long\n"),
+        Status::BadInput(fault) => bad_input_line(alloc, *fault),
+        Status::Illegal(key, verdict) => illegal_line(alloc, key, *verdict),
+        Status::Done | Status::WriteFault | Status::NoMemory => Ok(Blob::of(Vec::new(alloc))),
+    }
+}
+
 /// The line that names the first bad line of an input.
-pub fn bad_input_line(alloc: Global, fault: TextFault) -> Result<Blob, NoMemory>
+fn bad_input_line(alloc: Global, fault: TextFault) -> Result<Blob, NoMemory>
     ensures { IfOk result (λ text. text ≡ bad_input_line fault) }
 {
     let mut line = Vec::from_slice(alloc, b"bad input")?;
@@ -23,7 +38,7 @@ pub fn bad_input_line(alloc: Global, fault: TextFault) -> Result<Blob, NoMemory>
 }
 
 /// The line that tells how many orders a report has, all of them legal.
-pub fn legal_line(alloc: Global, count: usize) -> Result<Blob, NoMemory>
+pub(crate) fn legal_line(alloc: Global, count: usize) -> Result<Blob, NoMemory>
     ensures { IfOk result (λ text. text ≡ legal_line count) }
 {
     let mut line = Vec::from_slice(alloc, b"legal")?;
@@ -33,7 +48,7 @@ pub fn legal_line(alloc: Global, count: usize) -> Result<Blob, NoMemory>
 }
 
 /// The line that names the first illegal order of a report and what is wrong with it.
-pub fn illegal_line(alloc: Global, key: &Key, verdict: Verdict) -> Result<Blob, NoMemory>
+fn illegal_line(alloc: Global, key: &Key, verdict: Verdict) -> Result<Blob, NoMemory>
     ensures { IfOk result (λ text. text ≡ illegal_line key.now verdict) }
 {
     let mut line = Vec::from_slice(alloc, b"illegal")?;

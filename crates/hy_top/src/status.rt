@@ -1,12 +1,14 @@
 //! How a run of the program ends.
 
 ghost use Rattle.std.specs.Prelude.{◌≡◌};
+ghost use Rattle.hy_top.specs.Status.{status_of_reading, status_of_text};
+ghost use Rattle.hy_top.specs.declared.status.Status.TheVariants as statuses;
 
-use hy_base::TextFault;
+use hy_base::{NoMemory, ReadAllFault, TextError, TextFault};
 use hy_order::Verdict;
 use hy_record::Key;
 
-/// How a run of the program ends. Each but Done, WriteFault and NoMemory wrote a line that tells it.
+/// How a run of the program ends. Each but Done, WriteFault and NoMemory is a refusal: a line tells it.
 #[derive(Clone, Copy, Debug, PartialEq, Eq)]
 pub enum Status {
     /// The job was done and its output was written.
@@ -43,6 +45,37 @@ impl Status {
             Status::NoMemory => 7,
             Status::TooLong => 8,
             Status::Illegal(..) => 9,
+        }
+    }
+}
+
+impl From<NoMemory> for Status {
+    ghost from_gives = { λ _ status. status ≡ statuses.NoMemory };
+
+    fn from(_e: NoMemory) -> Status {
+        Status::NoMemory
+    }
+}
+
+impl From<ReadAllFault> for Status {
+    ghost from_gives = { λ fault status. status ≡ status_of_reading fault };
+
+    fn from(fault: ReadAllFault) -> Status {
+        match fault {
+            ReadAllFault::ReadFault => Status::ReadFault,
+            ReadAllFault::TooLong => Status::TooLong,
+            ReadAllFault::NoMemory => Status::NoMemory,
+        }
+    }
+}
+
+impl From<TextError> for Status {
+    ghost from_gives = { λ error status. status ≡ status_of_text error };
+
+    fn from(error: TextError) -> Status {
+        match error {
+            TextError::Fault(fault) => Status::BadInput(fault),
+            TextError::NoMemory => Status::NoMemory,
         }
     }
 }

@@ -1,12 +1,12 @@
 use super::*;
-use hy_base::{Blob, BytesIn, BytesOut, Cause, MAX_INPUT, TextFault};
+use hy_base::{Blob, BytesIn, BytesOut, Cause, TextFault};
 use hy_order::Verdict;
 use hy_record::Key;
 use std::alloc::Global;
 use std::process::Abort;
 use std::test::Fail;
 
-/// A call of the program: the text of its input and how many line feeds stand behind it, the
+/// A call of the program: the text of its input and how many line feeds stand after it, the
 /// numbers of the read and the write that fail, or 0, and what it is to answer and to write.
 #[derive(Drop)]
 struct Row {
@@ -109,9 +109,9 @@ fn worked_replays_answer_as_they_should(rt: HostRuntime) -> Result<(), Fail> {
     let mut failing_write = replay_of(PUT_THEN_GET, Status::WriteFault, "");
     failing_write.failing_write = 1;
     let mut longest = replay_of("", bad_input(1, Cause::NoHeader), "bad input 1 NoHeader\n");
-    longest.line_feeds = MAX_INPUT as usize;
+    longest.line_feeds = 16_777_216;
     let mut too_long = replay_of("", Status::TooLong, "too long\n");
-    too_long.line_feeds = MAX_INPUT as usize + 1;
+    too_long.line_feeds = 16_777_217;
     all_answer(
         &rt,
         rt.alloc(),
@@ -136,9 +136,9 @@ fn checks_are_refused_as_replays_are(rt: HostRuntime) -> Result<(), Fail> {
     let mut failing_write = check_of(TWO_PUTS_SWAPPED, Status::WriteFault, "");
     failing_write.failing_write = 1;
     let mut longest = check_of("", bad_input(1, Cause::BadWord), "bad input 1 BadWord\n");
-    longest.line_feeds = MAX_INPUT as usize;
+    longest.line_feeds = 16_777_216;
     let mut too_long = check_of("", Status::TooLong, "too long\n");
-    too_long.line_feeds = MAX_INPUT as usize + 1;
+    too_long.line_feeds = 16_777_217;
     all_answer(
         &rt,
         rt.alloc(),

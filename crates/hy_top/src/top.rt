@@ -2,21 +2,24 @@
 
 ghost use Rattle.std.specs.Prelude.{◌≡◌, ◌≤◌, IfOk, map};
 ghost use Rattle.std.specs.String.{string_bytes};
+ghost use Rattle.hy_base.specs.Sink.{sink_use};
+ghost use Rattle.hy_base.specs.Source.{source_use};
 ghost use Rattle.hy_top.specs.Answer.{Answers, IsTold};
 ghost use Rattle.hy_top.specs.Command.{IsCommand};
-ghost use Rattle.hy_top.specs.Input.{IsInput};
-ghost use Rattle.hy_top.specs.Outcome.{ComesTo};
+ghost use Rattle.hy_top.specs.Input.{ReadsInput};
+ghost use Rattle.hy_top.specs.Job.{ComesTo, DoesOnText, status_due, text_due};
 
-use crate::command::command_of;
-use crate::job::outcome_on;
-use crate::outcome::Outcome;
+use crate::command::{Command, TextCommand, command_of};
+use crate::line::refusal_line;
 use crate::status::Status;
-use hy_base::{Blob, MAX_INPUT, NoMemory, ReadAllFault, Sink, Source, read_all, write_all};
+use crate::text_job::output_on;
+use hy_base::{Blob, MAX_INPUT, NoMemory, Sink, Source, read_all, write_all};
 use std::alloc::Global;
 
 /// Does the job that the words ask for, over this input and output, and tells how it went.
 ///
-/// Each status but WriteFault and NoMemory comes exactly where its outcome does and its text was written.
+/// Each status but WriteFault and NoMemory comes exactly where the words and the input come to it and
+/// its text was written.
 pub fn run<S: Source, K: Sink>(
     alloc: Global,
     words: &Vec<String>,
@@ -24,84 +27,76 @@ pub fn run<S: Source, K: Sink>(
     output: &mut K,
 ) -> Status
     ensures answers { Answers (map string_bytes words.now.items)
-        (record {
-          left_before = S.left input.old;
-          left_after = S.left input.new;
-          faults_before = S.faults input.old;
-          faults_after = S.faults input.new;
-        })
-        (record {
-          written_before = K.written output.old;
-          written_after = K.written output.new;
-          faults_before = K.faults output.old;
-          faults_after = K.faults output.new;
-        })
+        (source_use S.left S.faults input.old input.new)
+        (sink_use K.written K.faults output.old output.new)
         result }
     ensures unread { ¬ IsCommand (map string_bytes words.now.items) → input.new ≡ input.old }
     ensures reads { S.faults input.old ≤ S.faults input.new }
     ensures writes { K.faults output.old ≤ K.faults output.new }
 {
-    match outcome_of(alloc, words, input) {
-        Ok(outcome) => tell(alloc, outcome, output),
-        Err(NoMemory) => Status::NoMemory,
-    }
+    let answer = answer_of(alloc, words, input);
+    tell(alloc, answer, output)
 }
 
-/// What the job comes to.
-fn outcome_of<S: Source>(
-    alloc: Global,
-    words: &[String],
-    input: &mut S,
-) -> Result<Outcome, NoMemory>
-    ensures outcome { IfOk result (ComesTo (map string_bytes words.now) (record {
-      left_before = S.left input.old;
-      left_after = S.left input.new;
-      faults_before = S.faults input.old;
-      faults_after = S.faults input.new;
-    })) }
+/// What the job answers that the words ask for: its output, or why it is refused.
+fn answer_of<S: Source>(alloc: Global, words: &[String], input: &mut S) -> Result<Blob, Status>
+    ensures answer { ComesTo (map string_bytes words.now)
+        (source_use S.left S.faults input.old input.new) result }
     ensures unread { ¬ IsCommand (map string_bytes words.now) → input.new ≡ input.old }
     ensures reads { S.faults input.old ≤ S.faults input.new }
 {
-    let Some(command) = command_of(words) else {
-        return Ok(Outcome::BadWords);
-    };
-    match read_input(alloc, input) {
-        Ok(text) => outcome_on(alloc, command, text),
-        Err(ReadAllFault::ReadFault) => Ok(Outcome::ReadFault),
-        Err(ReadAllFault::TooLong) => Ok(Outcome::TooLong),
-        Err(ReadAllFault::NoMemory) => Err(NoMemory),
+    match command_of(words) {
+        Some(Command::OnText(command)) => read_and_make(alloc, command, input),
+        None => Err(Status::BadWords),
     }
 }
 
-/// The input, read to its end.
-fn read_input<S: Source>(alloc: Global, input: &mut S) -> Result<Blob, ReadAllFault>
-    ensures input { IsInput (record {
-      left_before = S.left input.old;
-      left_after = S.left input.new;
-      faults_before = S.faults input.old;
-      faults_after = S.faults input.new;
-    }) result }
+/// What the command makes of the text that the input is.
+fn read_and_make<S: Source>(
+    alloc: Global,
+    command: TextCommand,
+    input: &mut S,
+) -> Result<Blob, Status>
+    ensures answer { DoesOnText command (source_use S.left S.faults input.old input.new) result }
     ensures reads { S.faults input.old ≤ S.faults input.new }
 {
-    read_all(alloc, input, MAX_INPUT)
+    let text = read_input(alloc, input)?;
+    output_on(alloc, command, text)
 }
 
-/// Writes the text that tells the outcome.
-fn tell<K: Sink>(alloc: Global, outcome: Outcome, output: &mut K) -> Status
-    ensures told { IsTold outcome (record {
-      written_before = K.written output.old;
-      written_after = K.written output.new;
-      faults_before = K.faults output.old;
-      faults_after = K.faults output.new;
-    }) result }
+/// The input, read to its end.
+fn read_input<S: Source>(alloc: Global, input: &mut S) -> Result<Blob, Status>
+    ensures input { ReadsInput (source_use S.left S.faults input.old input.new) result }
+    ensures reads { S.faults input.old ≤ S.faults input.new }
+{
+    Ok(read_all(alloc, input, MAX_INPUT)?)
+}
+
+/// Writes the text that tells the answer.
+fn tell<K: Sink>(alloc: Global, answer: Result<Blob, Status>, output: &mut K) -> Status
+    requires { ¬ (answer ≡ Err Status.WriteFault) }
+    ensures told { IsTold answer (sink_use K.written K.faults output.old output.new) result }
     ensures writes { K.faults output.old ≤ K.faults output.new }
 {
-    let status = outcome.status();
-    let Ok(text) = outcome.into_text(alloc) else {
+    let Ok((status, text)) = told_by(alloc, answer) else {
         return Status::NoMemory;
     };
     match write_all(output, text.bytes()) {
         Ok(()) => status,
         Err(_) => Status::WriteFault,
+    }
+}
+
+/// The status and the text that tell the answer.
+fn told_by(alloc: Global, answer: Result<Blob, Status>) -> Result<(Status, Blob), NoMemory>
+    ensures status { IfOk result (λ told. told.0 ≡ status_due answer) }
+    ensures text { IfOk result (λ told. told.1 ≡ text_due answer) }
+{
+    match answer {
+        Ok(text) => Ok((Status::Done, text)),
+        Err(status) => {
+            let line = refusal_line(alloc, &status)?;
+            Ok((status, line))
+        }
     }
 }

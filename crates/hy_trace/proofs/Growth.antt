@@ -1,9 +1,10 @@
 -- What one deed more leaves of a trace.
-use Rattle.std.proofs.Common.{◌≡◌, ℕ, Bool, true, false, cond, List, [], ◌∷◌, Option, Some, None, refl, sym, ap, subst, ◌∙◌, inl, inr}
+use Rattle.std.proofs.Common.{◌≡◌, ℕ, Bool, true, false, cond, List, [], ◌∷◌, Option, Some, None, refl, sym, ap, subst, ◌∙◌, inl, inr, arith}
 use Rattle.std.specs.Prelude.{◌&&◌, ◌==◌, ◌⊎◌, is_some}
 use Rattle.std.specs.Option.{option_or}
 use Rattle.std.specs.List.{AllByRecursion}
 use Rattle.std.proofs.lemmas.Option.{none-some, same_Some}
+use Rattle.std.proofs.lemmas.Bool.Decides.{nat_tests}
 use Rattle.std.proofs.lemmas.Bool.{eqb-true, false≢true}
 use Rattle.hy_record.specs.declared.message.MetaAsk.{MetaAsk}
 use Rattle.hy_record.specs.declared.action.Action.{Action}
@@ -26,6 +27,18 @@ le-same a = stamp_lt-same a
 
 pub le-trans : (a b c : Timestamp) → Le a b → Le b c → Le a c
 le-trans a b c below above = stamp_ge-trans c b a above below
+
+-- the timestamp of no record
+abbrev pub zero_stamp : Timestamp
+zero_stamp = record { sn = 0; cid = 0 }
+
+pub zero-least : (s : Timestamp) → Le zero_stamp s
+unfolding stamp_lt
+zero-least s = grind (arith, nat_tests)
+
+pub or-none : {A : Type 0} (a : Option A) → option_or a None ≡ a
+or-none None = refl
+or-none (Some x) = refl
 
 -- the first of two stays
 pub or-first : {A : Type 0} (a b : Option A) (x : A) → a ≡ Some x → option_or a b ≡ Some x

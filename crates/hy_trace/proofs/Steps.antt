@@ -22,7 +22,7 @@ use Rattle.hy_trace.specs.Messages.{Message, Ask, Say, Request, Answer, messages
 use Rattle.hy_protocol.specs.Operations.{key_of, replied}
 use Rattle.hy_trace.specs.Trace.{IsMade, IsDelivered, IsIdle, Fits, IsTrace}
 use Rattle.hy_trace.specs.Schedule.{awaited, hand, is_free, client_of, delivery, deed_of, trace_of}
-use Rattle.hy_trace.proofs.Growth.{or-first, or-cases, some-is, inputs-step, start-keeps}
+use Rattle.hy_trace.proofs.Growth.{or-none, or-first, or-cases, some-is, inputs-step, start-keeps}
 use Rattle.hy_trace.proofs.Heard.{IsInput, inputs-heard}
 
 -- messages that were sent
@@ -109,10 +109,6 @@ reply-keeps p c o d t fits is =
 pub record AreNumbered (p : Params) (t : List Deed) : Type 0 where
   pub range : (c o : ℕ) (s : Start) → start_of c o t ≡ Some s → (1 ≤ o) × (o ≤ begun c t)
   pub past : (c o : ℕ) → is_some (start_of c o t) ≡ true → o ≢ begun c t → is_some (reply_of p c o t) ≡ true
-
-or-none : {A : Type 0} (a : Option A) → option_or a None ≡ a
-or-none None = refl
-or-none (Some x) = refl
 
 -- a deed that begins nothing
 quiet-numbered : (p : Params) (d : Deed) (t : List Deed) → Fits p t d → ((c o : ℕ) → start_of c o (d ∷ t) ≡ start_of c o t) → ((c : ℕ) → begun c (d ∷ t) ≡ begun c t) → AreNumbered p t → AreNumbered p (d ∷ t)

@@ -58,7 +58,8 @@ granted cloud (Nothing ∷ before) = granted cloud before
 -- the inputs that this operation took, the newest first
 unfoldable pub inputs_of : ℕ → ℕ → List Deed → List Cue
 inputs_of client op [] = []
-inputs_of client op (Handed c o made cue ∷ before) = if c == client && o == op then cue ∷ inputs_of client op before else inputs_of client op before
+inputs_of client op (Handed c o made cue ∷ before) =
+    if c == client && o == op then cue ∷ inputs_of client op before else inputs_of client op before
 inputs_of client op (Served ask ∷ before) = inputs_of client op before
 inputs_of client op (Joined ∷ before) = inputs_of client op before
 inputs_of client op (Began c o a ∷ before) = inputs_of client op before

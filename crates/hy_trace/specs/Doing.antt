@@ -16,7 +16,8 @@ goes_on p client number before =
 -- the steps with at most so many deliveries, from this number on
 unfoldable pub with_gives : ℕ → Params → ℕ → ℕ → List Step → List Step
 with_gives zero p client number before = before
-with_gives (suc left) p client number before = if goes_on p client number before then with_gives left p client (number + 1) (steps.Give number ∷ before) else before
+with_gives (suc left) p client number before =
+    if goes_on p client number before then with_gives left p client (number + 1) (steps.Give number ∷ before) else before
 
 -- the steps with those of an operation that is run to its end; where the client is not free, the invocation alone
 unfoldable pub with_do : Params → ℕ → Action → List Step → List Step

@@ -16,7 +16,9 @@ pub record Return : Type 0 where
 -- the return of this operation: the first step at which it has a reply
 unfoldable pub return_of : Params → ℕ → ℕ → List Deed → Option Return
 return_of p c o [] = None
-return_of p c o (deed ∷ before) = option_or (return_of p c o before) (option_map (λ reply. record { at = length before + 1; reply = reply }) (reply_of p c o (deed ∷ before)))
+return_of p c o (deed ∷ before) =
+    option_or (return_of p c o before)
+    (option_map (λ reply. record { at = length before + 1; reply = reply }) (reply_of p c o (deed ∷ before)))
 
 -- an operation that began
 pub record Begun : Type 0 where

@@ -32,7 +32,14 @@ sent_after p client op inputs (Some start) = map message_of (sends_of p.f p.k cl
 -- the answer of an honest cloud that served this before
 abbrev pub answer_to : CloudAsk → List Deed → CloudReply
 answer_to ask before =
-    record { client = ask.client; op = ask.op; cloud = ask.cloud; key = ask.wish.key; stamp = ask.wish.stamp; say = cloud_answer (granted ask.cloud before) ask.wish }
+    record {
+      client = ask.client;
+      op = ask.op;
+      cloud = ask.cloud;
+      key = ask.wish.key;
+      stamp = ask.wish.stamp;
+      say = cloud_answer (granted ask.cloud before) ask.wish;
+    }
 
 -- what is sent at a deed
 unfoldable pub sent_at : Params → Deed → List Deed → List Message
@@ -56,7 +63,8 @@ message_at number messages = if nat_lt 0 number then slice_get messages (number 
 -- the step at which the message of this number was sent
 unfoldable pub step_of : Params → ℕ → List Deed → ℕ
 step_of p number [] = 0
-step_of p number (deed ∷ before) = if nat_le number (length (messages_of p before)) then step_of p number before else length before + 1
+step_of p number (deed ∷ before) =
+    if nat_le number (length (messages_of p before)) then step_of p number before else length before + 1
 
 -- the message is one of these
 abbrev pub IsAmong : List Message → Message → Type 0

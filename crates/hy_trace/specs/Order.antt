@@ -38,7 +38,9 @@ is_done_return (Some r) = is_done r.reply
 abbrev pub write_mark : Params → List Deed → Begun → List ℕ → Option (List ℕ) → Option Mark
 write_mark p t b key value =
     if is_done_return (return_of p b.client b.op t) || was_applied (served t) b.client b.op
-    then option_map (λ stamp. record { op = operation_of p t b; stamp = stamp; reads = 0; point = write_point b.client b.op t }) (own_stamp (write_plan p.f p.k b.client b.op key value) (inputs_of b.client b.op t))
+    then
+    option_map (λ stamp. record { op = operation_of p t b; stamp = stamp; reads = 0; point = write_point b.client b.op t })
+    (own_stamp (write_plan p.f p.k b.client b.op key value) (inputs_of b.client b.op t))
     else None
 
 -- a read that found this

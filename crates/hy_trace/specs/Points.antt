@@ -29,7 +29,10 @@ newer_made (Some v) (Some r) made old = if stamp_lt (stamp_of_record v.rec) (sta
 -- the step at which the service made the answer that gave a read its version
 unfoldable pub version_made : ℕ → ℕ → List Deed → ℕ
 version_made client op [] = 0
-version_made client op (Handed c o made cue ∷ before) = if c == client && o == op then newer_made (version_of (inputs_of client op before)) (has_of cue) made (version_made client op before) else version_made client op before
+version_made client op (Handed c o made cue ∷ before) =
+    if c == client && o == op
+    then newer_made (version_of (inputs_of client op before)) (has_of cue) made (version_made client op before)
+    else version_made client op before
 version_made client op (Served ask ∷ before) = version_made client op before
 version_made client op (Joined ∷ before) = version_made client op before
 version_made client op (Began c o a ∷ before) = version_made client op before
@@ -52,7 +55,8 @@ pub record Update : Type 0 where
 
 -- the update that the service serves by this request
 abbrev pub update_by : MetaAsk → List Deed → Option Update
-update_by (asks.Update c o k r) before = Some (record { client = c; op = o; key = k; stamp = r.stamp; step = length before + 1; is_applied = stamp_lt (record_stamp (served before) k) r.stamp })
+update_by (asks.Update c o k r) before =
+    Some (record { client = c; op = o; key = k; stamp = r.stamp; step = length before + 1; is_applied = stamp_lt (record_stamp (served before) k) r.stamp })
 update_by (asks.Read c o k) before = None
 update_by (asks.Watch c o k s) before = None
 update_by (asks.Olds c o k) before = None
@@ -91,10 +95,13 @@ abbrev pub just_before : Option Update → Point
 just_before None = record { step = 0; is_just_before = true }
 just_before (Some u) = record { step = u.step; is_just_before = true }
 
--- the point of a write whose first update was this: there, where it was applied; else just before the first applied update of its key with a greater timestamp
+-- the point of a write whose first update was this: there, where it was applied; else just before the first applied update of its key
+-- with a greater timestamp
 abbrev pub point_by : Option Update → List Deed → Point
 point_by None t = record { step = 0; is_just_before = true }
-point_by (Some u) t = if u.is_applied then record { step = u.step; is_just_before = false } else just_before (first_update (overwrites u.key u.stamp) t)
+point_by (Some u) t =
+    if u.is_applied then record { step = u.step; is_just_before = false }
+    else just_before (first_update (overwrites u.key u.stamp) t)
 
 -- the point of a write
 unfoldable pub write_point : ℕ → ℕ → List Deed → Point
@@ -103,7 +110,8 @@ write_point client op t = point_by (first_update (is_own client op) t) t
 -- an update of the operation was applied
 unfoldable pub was_applied : List MetaAsk → ℕ → ℕ → Bool
 was_applied [] client op = false
-was_applied (asks.Update c o k r ∷ before) client op = (c == client && o == op && stamp_lt (record_stamp before k) r.stamp) || was_applied before client op
+was_applied (asks.Update c o k r ∷ before) client op =
+    (c == client && o == op && stamp_lt (record_stamp before k) r.stamp) || was_applied before client op
 was_applied (asks.Read c o k ∷ before) client op = was_applied before client op
 was_applied (asks.Watch c o k s ∷ before) client op = was_applied before client op
 was_applied (asks.Olds c o k ∷ before) client op = was_applied before client op
@@ -112,7 +120,9 @@ was_applied (asks.Forget c o k ss ∷ before) client op = was_applied before cli
 -- how many updates of the key were applied
 unfoldable pub applied_count : List MetaAsk → List ℕ → ℕ
 applied_count [] key = 0
-applied_count (asks.Update c o k r ∷ before) key = if key_eq k key && stamp_lt (record_stamp before key) r.stamp then applied_count before key + 1 else applied_count before key
+applied_count (asks.Update c o k r ∷ before) key =
+    if key_eq k key && stamp_lt (record_stamp before key) r.stamp then applied_count before key + 1
+    else applied_count before key
 applied_count (asks.Read c o k ∷ before) key = applied_count before key
 applied_count (asks.Watch c o k s ∷ before) key = applied_count before key
 applied_count (asks.Olds c o k ∷ before) key = applied_count before key

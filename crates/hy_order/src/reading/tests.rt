@@ -1,5 +1,7 @@
 use super::*;
 use crate::writing::write_report;
+use hy_base::TextFault;
+use hy_text::{push_number, push_number_word};
 use std::test::Fail;
 
 const WHOLE: &[u8] = b"op 1 1 put a 00ff 1 7 done 1 1\n\
@@ -60,7 +62,7 @@ const BAD_OPERATIONS: [(&[u8], Cause); 25] = [
     (b"op 2 1 get a 8 - read 0 1\r", Cause::BadNumber),
 ];
 
-/// Lines behind a text, each with its number and the cause of its first bad word.
+/// Lines after a text, each with its number and the cause of its first bad word.
 const BAD_LINES: [(&[u8], &[u8], u32, Cause); 22] = [
     (FIRST, b"", 2, Cause::BadWord),
     (FIRST, b"held a 1 1 -", 2, Cause::BadWord),
@@ -90,7 +92,7 @@ fn fault(line: u32, cause: Cause) -> Option<TextError> {
     Some(TextError::Fault(TextFault { line, cause }))
 }
 
-/// The text with the line behind it, and then what a report ends with.
+/// The text with the line after it, and then what a report ends with.
 fn with_line(alloc: Global, text: &[u8], line: &[u8]) -> Result<Vec<u8>, NoMemory> {
     let mut whole = Vec::from_slice(alloc, text)?;
     whole.extend_from_slice(line)?;
@@ -171,5 +173,57 @@ fn long_value_is_refused(rt: HostRuntime) -> Result<(), Fail> {
             fault(2, cause)
         );
     }
+    Ok(())
+}
+
+/// Appends the line of a get that is told at once that its key is absent.
+fn push_get(out: &mut Vec<u8>, number: u32, key: u8) -> Result<(), NoMemory> {
+    let step = 2 * u64::from(number);
+    out.extend_from_slice(b"op ")?;
+    push_number(out, number.into())?;
+    out.extend_from_slice(b" 1 get ")?;
+    out.push(key)?;
+    push_number_word(out, step)?;
+    push_number_word(out, step + 1)?;
+    out.extend_from_slice(b" none 0 0\n")?;
+    Ok(())
+}
+
+#[test]
+fn many_orders_and_long_ones_are_read(rt: HostRuntime) -> Result<(), Fail> {
+    let mut text = Vec::new(rt.alloc());
+    for number in 1..=40 {
+        push_get(&mut text, number, b'a' + (number % 11) as u8)?;
+    }
+    for key in 0..11u8 {
+        text.extend_from_slice(b"order ")?;
+        text.push(b'a' + key)?;
+        for number in 1..=40 {
+            if key == 0 || number % 11 == u32::from(key) {
+                push_number_word(&mut text, number.into())?;
+            }
+        }
+        text.push(b'\n')?;
+    }
+    text.extend_from_slice(b"end 40 11\n")?;
+    let report = read_report(rt.alloc(), &text)?;
+    let first = report.orders.items().first().ok_or("eleven orders")?;
+    assert_eq!(rt; report.orders.items().len(), 11);
+    assert_eq!(rt; first.ops.items().len(), 40);
+    assert_eq!(rt; write_report(rt.alloc(), &report)?.bytes(), text.as_slice());
+    Ok(())
+}
+
+#[test]
+fn late_bad_line_is_named(rt: HostRuntime) -> Result<(), Fail> {
+    let mut text = Vec::new(rt.alloc());
+    for number in 1..=16_500 {
+        push_get(&mut text, number, b'a')?;
+    }
+    text.extend_from_slice(b"op 16501 1 fly a 40000 - read 0 1\n")?;
+    assert_eq!(rt;
+        read_report(rt.alloc(), &text).err(),
+        fault(16_501, Cause::BadWord)
+    );
     Ok(())
 }

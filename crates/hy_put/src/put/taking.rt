@@ -88,9 +88,9 @@ impl PutOp {
     {
         match &self.state {
             State::Reading => self.begin(alloc, rec),
-            State::Storing(_storing) => Ok(Turn::quiet(alloc)),
-            State::Updating(_rec) => Ok(Turn::quiet(alloc)),
-            State::Replied(_progress) => Ok(Turn::quiet(alloc)),
+            State::Storing(_known) => Ok(Turn::quiet(alloc)),
+            State::Updating(_known) => Ok(Turn::quiet(alloc)),
+            State::Replied(_known) => Ok(Turn::quiet(alloc)),
         }
     }
 

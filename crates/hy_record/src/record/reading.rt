@@ -31,19 +31,9 @@ impl Record {
     }
 }
 
-/// The law that no record's spelling begins another's.
-pub fn record_spellings_are_apart()
-    ensures { (a b x y : List ℕ) (r s : RecordValue) → SpellsRecord a r → SpellsRecord b s → a ++ x ≡ b ++ y → (r ≡ s) × (a ≡ b) }
-{}
-
-/// The law that what is written is read again.
-pub fn records_are_read_back()
-    ensures { (r : RecordValue) → IsRecord r → record_of (record_bytes r) ≡ Ok r }
-{}
-
 /// How a value lies in the clouds.
 #[derive(Clone, Copy)]
-pub(super) struct Layout {
+pub(crate) struct Layout {
     size: u32,
     f: u8,
     k: u8,

@@ -1,10 +1,11 @@
 //! Writing a record as bytes.
 
-ghost use Rattle.std.specs.Prelude.{◌≡◌, ◌++◌, IfOk, OnOk};
+ghost use Rattle.std.specs.Prelude.{◌≡◌, ◌≤◌, ◌++◌, IfOk, OnOk, length};
 ghost use Rattle.std.specs.List.{concat};
 ghost use Rattle.byteorder.specs.Endian.{big_bytes};
+ghost use Rattle.hy_base.specs.declared.limits.TheConstants.{MAX_RECORD};
 ghost use Rattle.hy_record.specs.Record.{IsRecord};
-ghost use Rattle.hy_record.specs.Spelling.{SpellsRecord, record_bytes};
+ghost use Rattle.hy_record.specs.Spelling.{SpellsRecord, record_bytes, spelling_size};
 
 use super::Record;
 use crate::hash::Hash;
@@ -14,13 +15,15 @@ use hy_base::{Blob, NoMemory};
 use std::alloc::Global;
 
 /// The version that is written, and the only one that is read.
-pub(super) const VERSION: u8 = 1;
+pub(crate) const VERSION: u8 = 1;
 
 impl Record {
-    /// The one spelling of the record, of at most 338 bytes.
+    /// The one spelling of the record.
     pub fn encode(&self, alloc: Global) -> Result<Blob, NoMemory>
         ensures spelling { IfOk result (λ bytes. SpellsRecord bytes self.now) }
         ensures value { IfOk result (λ bytes. bytes ≡ record_bytes self.now) }
+        ensures size { IfOk result (λ bytes. length bytes ≡ spelling_size self.now.kind self.now.f self.now.k) }
+        ensures short { IfOk result (λ bytes. length bytes ≤ MAX_RECORD) }
     {
         let bytes = self.written(alloc)?;
         Ok(Blob::of(bytes))

@@ -17,7 +17,7 @@ returns c = λ key.
     c.new.ensures.items
     (c.or_insert-ops.ensures.value
     ∙ ap (λ found. unwrap_or found c.new.result) c.in_ok-by_key.ensures.value
-    ∙ ap (λ key. unwrap_or (lookup (is_at (slice_cmp nat_cmp key)) c.args.by_key.now.entries) c.new.result) c.key_of.ensures)
+    ∙ ap (λ key. unwrap_or (lookup (is_at (slice_cmp nat_cmp key)) c.args.by_key.now.entries) c.new.result) c.key_of_action.ensures)
     c.in_ok-push.ensures.items in
     let update = ((c.in_ok-by_key.ensures.update).0 c.push.new.self).0 key in
-    operations_under-added _ _ c.args.op.now c.push.new.self key (grind (arith, update, c.key_of.ensures)) more
+    operations_under-added _ _ c.args.op.now c.push.new.self key (grind (arith, update, c.key_of_action.ensures)) more

@@ -1,7 +1,7 @@
 use Rattle.std.proofs.Common.{◌≡◌, ℕ, ◌<◌, false, length, get_or, sym, ◌∙◌, arith}
 use Rattle.std.specs.BTreeSet.{contains}
 use Rattle.std.specs.Ordering.{nat_cmp}
-use Rattle.hy_order.proofs.Sets.{IsSetOf-next, repeated_behind-next}
+use Rattle.hy_order.proofs.Sets.{IsSetOf-next, repeated_after-next}
 use Rattle.hy_order.proofs.listing.first_repeated.Goals as goal
 
 pub loop-number-preserved : goal.loop-number-preserved
@@ -15,5 +15,5 @@ loop-number-preserved c =
       seen =
           IsSetOf-next c.args.numbers.now place within c.loop-number.earlier c.insert.new.self c.loop-number.invariant.seen c.in_ok-insert.ensures.updates.0;
       none =
-          repeated_behind-next c.args.numbers.now place within (sym (c.loop-number.invariant.seen number) ∙ absent) ∙ c.loop-number.invariant.none;
+          repeated_after-next c.args.numbers.now place within (sym (c.loop-number.invariant.seen number) ∙ absent) ∙ c.loop-number.invariant.none;
     }

@@ -8,5 +8,5 @@ returns c =
     c.in_ok-extend_from_slice.ensures.items
     (rw c.bytes.ensures.value at c.in_ok-push_word.ensures)
     c.in_ok-push_stamp.ensures
-    (rw (c.deref.ensures.value, c.in_ok-clouds.ensures) at c.in_ok-push_clouds.ensures)
+    c.in_ok-push_clouds.ensures
     c.in_ok-push_line_end.ensures

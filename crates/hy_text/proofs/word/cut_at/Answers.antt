@@ -4,9 +4,9 @@ use Rattle.hy_text.proofs.Pieces.{pieces_at-none, pieces_at-place}
 use Rattle.hy_text.proofs.word.cut_at.Goals as goal
 
 pub returns-in-None : goal.returns-in-None
-returns-in-None c = pieces_at-none _ _ (sym c.place_of.ensures ∙ c.in-None.is)
+returns-in-None c = pieces_at-none _ _ (sym c.separator_place.ensures ∙ c.in-None.is)
 
 pub returns-in-Some : goal.returns-in-Some
 returns-in-Some c =
-    let p = pieces_at-place c.args.separator c.args.bytes.now c.in-Some.end (sym c.place_of.ensures ∙ c.in-Some.is) in
+    let p = pieces_at-place c.args.separator c.args.bytes.now c.in-Some.end (sym c.separator_place.ensures ∙ c.in-Some.is) in
     grind (arith, common_steps, p.1)

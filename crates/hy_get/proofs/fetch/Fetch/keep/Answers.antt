@@ -41,6 +41,6 @@ returns-in-Ok-clause-keeps c =
 pub returns-in-Err-clause-keeps : goal.returns-in-Err-clause-keeps
 returns-in-Err-clause-keeps c =
     let back : c.remove.new.self.items ≡ c.args.self.now.picks.items =
-        c.remove.ensures.items ∙ ap (λ (ps : List Pick). remove ps c.place_of-place.result) c.in_ok-insert.ensures.items
-        ∙ remove-insert c.args.self.now.picks.items c.place_of-place.result (record { cloud = c.args.reply.now.cloud; bytes = c.in_ok-bytes.bytes }) (omega (arith, c.place_of-place.ensures.inside, c.deref-2.ensures.len, c.args.self.now.picks.ok.0)) in
+    c.remove.ensures.items ∙ ap (λ (ps : List Pick). remove ps c.place_of-place.result) c.in_ok-insert.ensures.items
+    ∙ remove-insert c.args.self.now.picks.items c.place_of-place.result (record { cloud = c.args.reply.now.cloud; bytes = c.in_ok-bytes.bytes }) (omega (arith, c.place_of-place.ensures.inside, c.deref-2.ensures.len, c.args.self.now.picks.ok.0)) in
     λ plan since a. awaits-as-before c.args.self.now _ since a (record { rec = refl; holders = refl; failed = refl; timeouts = refl; fired = refl }) back

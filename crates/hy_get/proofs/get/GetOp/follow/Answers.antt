@@ -19,7 +19,7 @@ pub returns-then-is_tomb-clause-begins : goal.returns-then-is_tomb-clause-begins
 returns-then-is_tomb-clause-begins c =
     subst (λ (x : Option RecordValue). Begins (plan_of c.args.self.now.issuer) x c.reply_absent-then-is_tomb.result c.reply_absent-then-is_tomb.new.self.state) (sym c.in-Some.is)
     (begins-tomb _ c.in-Some.rec c.reply_absent-then-is_tomb.result c.reply_absent-then-is_tomb.new.self.state (subst IsRecord c.known.ensures.same c.known.ensures.ruled) (sym c.is_tomb.ensures ∙ c.if-is_tomb.true)
-    (c.reply_absent-then-is_tomb.ensures.turn ∙ ap (λ (t : Timestamp). turn_with [] (Some (told.Absent t))) c.stamp.ensures) (ap (λ (g : GetOp). g.state) c.reply_absent-then-is_tomb.ensures.after))
+    (c.reply_absent-then-is_tomb.ensures.turn ∙ ap (λ (t : Timestamp). turn_with [] (Some (told.Absent t))) (c.stamp.ensures ∙ ap (λ (r : RecordValue). r.stamp) c.known.ensures.same)) (ap (λ (g : GetOp). g.state) c.reply_absent-then-is_tomb.ensures.after))
 
 pub returns-in_ok-sends-in-Some-clause-begins : goal.returns-in_ok-sends-in-Some-clause-begins
 returns-in_ok-sends-in-Some-clause-begins c =

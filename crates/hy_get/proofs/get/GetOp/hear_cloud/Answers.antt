@@ -36,7 +36,7 @@ returns-in-Requests-clause-takes c =
 pub returns-in-Value-clause-takes : goal.returns-in-Value-clause-takes
 returns-in-Value-clause-takes c =
     let completes : (since : List Cue) → Awaits c.in-Fetching.fetch since → Completes c.in-Fetching.fetch.rec since (cues.Cloud c.args.reply.now) c.in-Value.value c.hear.new.self =
-        λ since a. subst (λ (heard : Heard). HeardSince (plan_of c.args.self.now.issuer) c.in-Fetching.fetch.rec since (cues.Cloud c.args.reply.now) c.hear.new.self heard) c.in-Value.is (c.in_ok-sends-in-Fetching.ensures.hears since a) in
+    λ since a. subst (λ (heard : Heard). HeardSince (plan_of c.args.self.now.issuer) c.in-Fetching.fetch.rec since (cues.Cloud c.args.reply.now) c.hear.new.self heard) c.in-Value.is (c.in_ok-sends-in-Fetching.ensures.hears since a) in
     λ inputs h. fetching-ends _ c.args.self.now _ inputs _ _ c.in-Fetching.fetch (told.Value c.in-Value.value c.in-Fetching.fetch.rec.stamp) c.progress.result h c.in-Fetching.is refl (λ since. refl)
     (λ since a. (completes since a).answer)
     (λ since a. subst (λ (r : RecordValue). Tells c.progress.result (version_progress (Some r) (cues.Cloud c.args.reply.now ∷ since))) c.hear.ensures.rec (c.progress.ensures _ (completes since a).follows (completes since a).enough))

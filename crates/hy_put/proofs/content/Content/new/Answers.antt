@@ -10,7 +10,7 @@ use Rattle.hy_put.proofs.content.Content.new.Goals.{then-k-eq1+in_ok-hashes, els
 pub returns : goal.returns
 returns c =
     let fragments : c.in_ok-fragments.fragments ≡ map (fragment_of c.args.value.now c.args.k) (range_with_len 0 (cloud_count c.args.f c.args.k)) =
-        c.in_ok-fragments.ensures.each ∙ ap (λ (n : ℕ). map (fragment_of c.args.value.now c.args.k) (range_with_len 0 n)) c.cloud_count-n.ensures in
+    c.in_ok-fragments.ensures.each ∙ ap (λ (n : ℕ). map (fragment_of c.args.value.now c.args.k) (range_with_len 0 n)) c.cloud_count-n.ensures in
     record {
       faults = refl;
       parts = refl;

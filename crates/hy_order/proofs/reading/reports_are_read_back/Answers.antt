@@ -1,5 +1,0 @@
-use Rattle.hy_order.proofs.ReportLaws.{report_again}
-use Rattle.hy_order.proofs.reading.reports_are_read_back.Goals as goal
-
-pub returns : goal.returns
-returns c = report_again

@@ -1,0 +1,58 @@
+-- What a job answers, an output or a refusal, and when.
+use Rattle.std.specs.Prelude.{ℕ, List, [], ◌∷◌, Result, Ok, Err}
+use Rattle.hy_base.specs.Source.{SourceUse}
+use Rattle.hy_top.specs.Check.{Checks}
+use Rattle.hy_top.specs.Command.{Asks, IsCommand}
+use Rattle.hy_top.specs.Input.{IsWholeInput, IsUnreadable, IsOverlong}
+use Rattle.hy_top.specs.Line.{refusal_line}
+use Rattle.hy_top.specs.Replay.{Replays}
+use Rattle.hy_top.specs.declared.command.Command.{Command}
+use Rattle.hy_top.specs.declared.command.Command.TheVariants.{OnText}
+use Rattle.hy_top.specs.declared.command.TextCommand.{TextCommand}
+use Rattle.hy_top.specs.declared.command.TextCommand.TheVariants.{Replay, Check}
+use Rattle.hy_top.specs.declared.status.Status.{Status}
+use Rattle.hy_top.specs.declared.status.Status.TheVariants.{Done, BadWords, ReadFault, TooLong, NoMemory}
+
+-- what a command on a text makes of it
+abbrev pub Makes : TextCommand → List ℕ → Result (List ℕ) Status → Type 0
+Makes Replay text answer = Replays text answer
+Makes Check text answer = Checks text answer
+
+-- the input was read to its end, and the command made this of it
+pub record ReadsAndMakes (command : TextCommand) (input : SourceUse) (answer : Result (List ℕ) Status) : Type 0 where
+  pub text : List ℕ
+  pub read : IsWholeInput input text
+  pub made : Makes command text answer
+
+-- what a command on a text answers over an input
+abbrev pub DoesOnText : TextCommand → SourceUse → Result (List ℕ) Status → Type 0
+DoesOnText command input (Err ReadFault) = IsUnreadable input
+DoesOnText command input (Err TooLong) = IsOverlong input
+DoesOnText command input (Err NoMemory) = Unit {0}
+DoesOnText command input answer = ReadsAndMakes command input answer
+
+-- what a command answers over an input
+abbrev pub Does : Command → SourceUse → Result (List ℕ) Status → Type 0
+Does (OnText command) input answer = DoesOnText command input answer
+
+-- the words ask for a command, and it answered this
+pub record IsDone (words : List (List ℕ)) (input : SourceUse) (answer : Result (List ℕ) Status) : Type 0 where
+  pub command : Command
+  pub asked : Asks words command
+  pub done : Does command input answer
+
+-- when the words and the input come to an answer; want of memory may come at any time
+abbrev pub ComesTo : List (List ℕ) → SourceUse → Result (List ℕ) Status → Type 0
+ComesTo words input (Err BadWords) = ¬ IsCommand words
+ComesTo words input (Err NoMemory) = Unit {0}
+ComesTo words input answer = IsDone words input answer
+
+-- the text that tells an answer: the output, or the line of the refusal
+abbrev pub text_due : Result (List ℕ) Status → List ℕ
+text_due (Ok output) = output
+text_due (Err status) = refusal_line status
+
+-- the status that tells an answer
+abbrev pub status_due : Result (List ℕ) Status → Status
+status_due (Ok output) = Done
+status_due (Err status) = status
