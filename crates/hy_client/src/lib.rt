@@ -12,3 +12,6 @@ mod target;
 pub use client::{Client, Running};
 pub use collect::CollectOp;
 pub use fault::InvokeFault;
+
+#[cfg(test)]
+mod tests;
