@@ -1,21 +1,9 @@
 -- Lemmas on writes, one after another.
-use Rattle.std.proofs.Common.{◌≡◌, ℕ, ◌+◌, ◌-◌, List, [], ◌++◌, length, take, drop, Option, Some, None, sym, ap, ◌∙◌, append_assoc, append-nil, subst, arith, length-drop}
+use Rattle.std.proofs.Common.{◌≡◌, ℕ, ◌+◌, ◌-◌, List, ◌++◌, length, take, drop, Option, sym, ap, ◌∙◌, subst, arith, length-drop}
 use Rattle.std.proofs.lemmas.List.{take_all}
 use Rattle.std.proofs.Math.Seq.{take-add}
-use Rattle.hy_base.specs.Sink.{Appends}
-
--- a call that adds nothing may leave all as it was
-pub Appends-nil : (written : Option (List ℕ)) → Appends written written []
-Appends-nil None = tt
-Appends-nil (Some bytes) = sym (append-nil bytes)
-
--- what two calls added, one after the other
-pub Appends-trans : (old between new : Option (List ℕ)) (first second : List ℕ)
-    → Appends old between first → Appends between new second → Appends old new (first ++ second)
-Appends-trans old between None first second p q = tt
-Appends-trans old None (Some z) first second p q = absurd q
-Appends-trans None (Some y) (Some z) first second p q = absurd p
-Appends-trans (Some x) (Some y) (Some z) first second p q = q ∙ ap (λ bytes. bytes ++ second) p ∙ append_assoc x first second
+use Rattle.std.proofs.KnownBytes.{Appends-trans}
+use Rattle.std.specs.Io.KnownBytes.{Appends}
 
 -- what was added of a front of the bytes, and then of the rest of them
 pub Appends-more : (old between new : Option (List ℕ)) (bytes : List ℕ) (written count : ℕ)

@@ -1,4 +1,6 @@
 pub mod Faults
+pub mod Shape
+pub mod Results
 pub mod Source
 pub mod Sink
 pub mod MemorySource

@@ -1,16 +1,17 @@
 //! Sources and sinks over the readers and writers of the standard library.
 
-ghost use Rattle.std.specs.Prelude.{◌≡◌, None, length};
+ghost use Rattle.std.specs.Prelude.{◌≡◌, length};
+ghost use Rattle.std.specs.Io.KnownBytes.{ReadConsumes, WriteAppends};
 ghost use Rattle.hy_base.specs.Faults.{HasCause, faults_after};
-ghost use Rattle.hy_base.specs.Source.{ReadsAtMost, ReadTakes};
-ghost use Rattle.hy_base.specs.Sink.{WritesSome, WriteAppends};
+ghost use Rattle.hy_base.specs.Source.{ReadsAtMost};
+ghost use Rattle.hy_base.specs.Sink.{WritesSome};
 
 use crate::failure::Failed;
 use crate::sink::Sink;
 use crate::source::Source;
 use std::io::{Read, Write};
 
-/// A reader of the outside, which tells none of its bytes.
+/// A reader of the outside, which tells the bytes that the reader tells.
 ///
 /// Each error of the reader counts as a fault, also one after which it goes on.
 #[derive(Debug, Drop)]
@@ -22,20 +23,22 @@ pub struct ReadSource<R> {
 impl<R: Read> ReadSource<R> {
     /// A source over this reader, without faults so far.
     pub fn new(reader: R) -> ReadSource<R>
-        ensures { ⟦<ReadSource<R> as Source>⟧.faults result ≡ 0 }
+        ensures left { ⟦<ReadSource<R> as Source>⟧.left result ≡ R.remaining reader }
+        ensures faults { ⟦<ReadSource<R> as Source>⟧.faults result ≡ 0 }
     {
         ReadSource { reader, faults: 0 }
     }
 }
 
 impl<R: Read> Source for ReadSource<R> {
-    ghost left = { λ _. None };
+    ghost left = { λ source. R.remaining source.reader };
 
     ghost faults = { λ source. source.faults };
 
     fn read(&mut self, buf: &mut [u8]) -> Result<usize, Failed>
         ensures count { ReadsAtMost (length buf.old) result }
-        ensures takes { ReadTakes None None result buf.new }
+        ensures takes { let left = ⟦<ReadSource<R> as Source>⟧.left in
+            ReadConsumes (left self.old) (left self.new) result buf.new }
         ensures cause { let faults = ⟦<ReadSource<R> as Source>⟧.faults in
             HasCause (faults self.old) (faults self.new) result }
         ensures counts { let faults = ⟦<ReadSource<R> as Source>⟧.faults in
@@ -51,7 +54,7 @@ impl<R: Read> Source for ReadSource<R> {
     }
 }
 
-/// A writer of the outside, which tells none of its bytes.
+/// A writer of the outside, which tells the bytes that the writer tells.
 ///
 /// Each error of the writer counts as a fault, and so does a write that takes nothing of a piece.
 #[derive(Debug, Drop)]
@@ -63,20 +66,22 @@ pub struct WriteSink<W> {
 impl<W: Write> WriteSink<W> {
     /// A sink over this writer, without faults so far.
     pub fn new(writer: W) -> WriteSink<W>
-        ensures { ⟦<WriteSink<W> as Sink>⟧.faults result ≡ 0 }
+        ensures written { ⟦<WriteSink<W> as Sink>⟧.written result ≡ W.contents writer }
+        ensures faults { ⟦<WriteSink<W> as Sink>⟧.faults result ≡ 0 }
     {
         WriteSink { writer, faults: 0 }
     }
 }
 
 impl<W: Write> Sink for WriteSink<W> {
-    ghost written = { λ _. None };
+    ghost written = { λ sink. W.contents sink.writer };
 
     ghost faults = { λ sink. sink.faults };
 
     fn write(&mut self, piece: &[u8]) -> Result<usize, Failed>
         ensures count { WritesSome (length piece.now) result }
-        ensures appends { WriteAppends None None result piece.now }
+        ensures appends { let written = ⟦<WriteSink<W> as Sink>⟧.written in
+            WriteAppends (written self.old) (written self.new) result piece.now }
         ensures cause { let faults = ⟦<WriteSink<W> as Sink>⟧.faults in
             HasCause (faults self.old) (faults self.new) result }
         ensures counts { let faults = ⟦<WriteSink<W> as Sink>⟧.faults in

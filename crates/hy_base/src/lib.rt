@@ -11,6 +11,7 @@ mod memory_sink;
 mod memory_source;
 mod numbers;
 mod reading;
+mod shape;
 mod sink;
 mod source;
 mod writing;
@@ -20,13 +21,14 @@ pub use blob::Blob;
 pub use failure::{Failed, NoMemory};
 pub use fault::{Cause, TextError, TextFault};
 pub use limits::{
-    MAX_EVENTS, MAX_F, MAX_INPUT, MAX_K, MAX_KEY, MAX_LINE, MAX_N, MAX_SESSIONS, MAX_TEXT_VALUE,
-    MAX_VALUE,
+    MAX_CLOUDS, MAX_COUNT, MAX_EVENTS, MAX_F, MAX_INPUT, MAX_K, MAX_KEY, MAX_LINE, MAX_N,
+    MAX_SESSIONS, MAX_SN, MAX_TEXT_VALUE, MAX_VALUE, SN_END,
 };
 pub use memory_sink::BytesOut;
 pub use memory_source::BytesIn;
 pub use numbers::Numbers;
 pub use reading::{ReadAllFault, read_all};
+pub use shape::{cloud_count, fragment_size, quorum_size};
 pub use sink::Sink;
 pub use source::Source;
 pub use writing::{WriteFault, write_all};

@@ -9,6 +9,9 @@ pub const MAX_K: u8 = 4;
 /// The most clouds of a store: twice its faults and its parts.
 pub const MAX_N: u8 = 10;
 
+/// The most clouds that a set of clouds can name: one for each of its bits.
+pub const MAX_CLOUDS: u8 = 16;
+
 /// The most bytes of a value.
 pub const MAX_VALUE: u32 = 1_048_576;
 
@@ -27,5 +30,14 @@ pub const MAX_EVENTS: u32 = 16_384;
 /// The most bytes of a value in a schedule or a report.
 pub const MAX_TEXT_VALUE: usize = 4_096;
 
-/// The number of the last line that a fault can name.
+/// The number of the last line that a fault can name; it stands for each later line too.
 pub const MAX_LINE: u32 = 4_294_967_295;
+
+/// The last sequence number that a timestamp has.
+pub const MAX_SN: u32 = 4_294_967_294;
+
+/// The first sequence number that no timestamp has.
+pub const SN_END: u32 = 4_294_967_295;
+
+/// The last number of a client or of an operation, and the largest count that is told.
+pub const MAX_COUNT: u32 = 4_294_967_295;

@@ -1,8 +1,9 @@
 //! A sink into memory that was reserved before.
 
 ghost use Rattle.std.specs.Prelude.{◌≡◌, ◌↔◌, Some, length, IsErr, IfOk};
+ghost use Rattle.std.specs.Io.KnownBytes.{WriteAppends};
 ghost use Rattle.hy_base.specs.Faults.{HasCause};
-ghost use Rattle.hy_base.specs.Sink.{WritesSome, WriteAppends};
+ghost use Rattle.hy_base.specs.Sink.{WritesSome};
 ghost use Rattle.hy_base.specs.MemorySink.{fresh_output, output_after, RefusesPiece};
 
 use crate::calls::Calls;

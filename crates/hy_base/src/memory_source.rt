@@ -1,8 +1,9 @@
 //! A source over bytes in memory.
 
 ghost use Rattle.std.specs.Prelude.{◌≡◌, ◌≤◌, ◌↔◌, Some, length, IsErr, IfOk};
+ghost use Rattle.std.specs.Io.KnownBytes.{ReadConsumes};
 ghost use Rattle.hy_base.specs.Faults.{HasCause, FailsNext};
-ghost use Rattle.hy_base.specs.Source.{ReadsAtMost, ReadTakes};
+ghost use Rattle.hy_base.specs.Source.{ReadsAtMost};
 ghost use Rattle.hy_base.specs.MemorySource.{fresh_input, given_count, input_after};
 
 use crate::blob::Blob;
@@ -61,7 +62,7 @@ impl Source for BytesIn {
 
     fn read(&mut self, buf: &mut [u8]) -> Result<usize, Failed>
         ensures count { ReadsAtMost (length buf.old) result }
-        ensures takes { ReadTakes (Some self.old.rest) (Some self.new.rest) result buf.new }
+        ensures takes { ReadConsumes (Some self.old.rest) (Some self.new.rest) result buf.new }
         ensures cause { HasCause self.old.faults self.new.faults result }
         ensures fails { IsErr result ↔ FailsNext self.old.failing self.old.calls }
         ensures gives { IfOk result (λ count. count ≡ given_count self.old (length buf.old)) }

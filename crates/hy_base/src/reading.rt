@@ -1,6 +1,6 @@
 //! A source read to its end.
 
-ghost use Rattle.std.specs.Prelude.{◌≡◌, ◌≤◌, IfOk, IsErrOf, IsSome, vec_len};
+ghost use Rattle.std.specs.Prelude.{◌≡◌, ◌≤◌, IfOk, IfSome, IsErrOf, vec_len};
 ghost use Rattle.hy_base.specs.Faults.{Rose};
 ghost use Rattle.hy_base.specs.Source.{Reading, ReadsText};
 ghost use Rattle.hy_base.specs.declared.reading.ReadAllFault.TheVariants as faults;
@@ -61,10 +61,12 @@ const CHUNK: usize = 65_536;
 /// After a fault the source has lost what was taken until then.
 pub fn read_all<S: Source>(alloc: Global, source: &mut S, limit: u64) -> Result<Blob, ReadAllFault>
     ensures taken { Reading (S.left source.old) (S.left source.new) limit result }
-    ensures told { IsSome (S.left source.new) → ReadsText (S.left source.old) limit result }
+    ensures told { IfSome (S.left source.old) (λ text. ReadsText text limit result) }
     ensures stays { S.faults source.old ≤ S.faults source.new }
     ensures rose { IsErrOf result ReadAllFault.ReadFault →
         Rose (S.faults source.old) (S.faults source.new) }
+    ensures kept { ¬ IsErrOf result ReadAllFault.ReadFault →
+        S.faults source.new ≡ S.faults source.old }
 {
     let mut chunk = zeros(alloc, CHUNK)?;
     let mut bytes = Vec::new(alloc);

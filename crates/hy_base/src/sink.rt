@@ -1,8 +1,9 @@
 //! Where output goes to.
 
 ghost use Rattle.std.specs.Prelude.{List, ℕ, Option, length};
+ghost use Rattle.std.specs.Io.KnownBytes.{WriteAppends};
 ghost use Rattle.hy_base.specs.Faults.{HasCause};
-ghost use Rattle.hy_base.specs.Sink.{WritesSome, WriteAppends};
+ghost use Rattle.hy_base.specs.Sink.{WritesSome};
 
 use crate::failure::Failed;
 

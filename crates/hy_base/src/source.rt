@@ -1,8 +1,9 @@
 //! Where input comes from.
 
 ghost use Rattle.std.specs.Prelude.{List, ℕ, Option, length};
+ghost use Rattle.std.specs.Io.KnownBytes.{ReadConsumes};
 ghost use Rattle.hy_base.specs.Faults.{HasCause};
-ghost use Rattle.hy_base.specs.Source.{ReadsAtMost, ReadTakes};
+ghost use Rattle.hy_base.specs.Source.{ReadsAtMost};
 
 use crate::failure::Failed;
 
@@ -19,6 +20,6 @@ pub trait Source {
     /// A read that fails takes nothing, and is counted.
     fn read(&mut self, buf: &mut [u8]) -> Result<usize, Failed>
         ensures count { ReadsAtMost (length buf.old) result }
-        ensures takes { ReadTakes (left self.old) (left self.new) result buf.new }
+        ensures takes { ReadConsumes (left self.old) (left self.new) result buf.new }
         ensures cause { HasCause (faults self.old) (faults self.new) result };
 }

@@ -1,8 +1,9 @@
 //! Bytes written whole to a sink.
 
 ghost use Rattle.std.specs.Prelude.{OnOk, OnErr};
+ghost use Rattle.std.specs.Io.KnownBytes.{Appends};
 ghost use Rattle.hy_base.specs.Faults.{HasCause};
-ghost use Rattle.hy_base.specs.Sink.{Appends, AppendsFront};
+ghost use Rattle.hy_base.specs.Sink.{AppendsFront};
 
 use crate::failure::Failed;
 use crate::sink::Sink;

@@ -5,11 +5,12 @@ use Rattle.std.specs.List.{range_with_len}
 use Rattle.std.proofs.lemmas.Grind.{same_number_lists, div_ceil_times}
 use Rattle.std.proofs.lemmas.List.{get_or-take, length-map, length-take}
 use Rattle.std.proofs.lemmas.List.FromFn.{get_or-map-range_with_len, length-map-range_with_len, length-range_with_len}
+use Rattle.hy_base.specs.Shape.{fragment_size}
 use Rattle.hy_gf.specs.Gf.{gf, IsElement}
 use Rattle.hy_code.proofs.Bytes.{only_polynomial, value_at-element}
 use Rattle.hy_code.proofs.PartLemmas.{clouds-parts_of, range-different}
 use Rattle.hy_code.proofs.Ranges.{map-same, flat_map-same, rows_joined}
-use Rattle.hy_code.specs.Fragments.{AreFragments, AnyPartsRebuild, clouds, column, row_at, part_of, part_size, parts_of, fragment_of, rebuilt_value}
+use Rattle.hy_code.specs.Fragments.{AreFragments, AnyPartsRebuild, clouds, column, row_at, part_of, parts_of, fragment_of, rebuilt_value}
 use Rattle.hy_code.specs.Polynomial.{AreElements, IsOnlyPolynomial, value_at, polynomial_through}
 use Rattle.hy_code.specs.declared.pick.Pick.{Pick}
 
@@ -48,37 +49,37 @@ column-parts value size place a (suc n) within =
 -- one polynomial holds the bytes of all fragments at a place
 unfoldable pub place_polynomial : List ℕ → ℕ → ℕ → List ℕ
 place_polynomial value k place =
-    polynomial_through gf (range_with_len 0 k) (part_bytes value (part_size (length value) k) k place)
+    polynomial_through gf (range_with_len 0 k) (part_bytes value (fragment_size (length value) k) k place)
 
-pub byte_of_fragment : (value : List ℕ) (k i place : ℕ) → place < part_size (length value) k → slice_index (fragment_of value k i) place ≡ value_at gf (place_polynomial value k place) i
+pub byte_of_fragment : (value : List ℕ) (k i place : ℕ) → place < fragment_size (length value) k → slice_index (fragment_of value k i) place ≡ value_at gf (place_polynomial value k place) i
 unfolding fragment_of row_at parts_of place_polynomial part_bytes
 byte_of_fragment value k i place within =
-    let size = part_size (length value) k in
+    let size = fragment_size (length value) k in
     let parts = parts_of value k in
     get_or-map-range_with_len (λ p. value_at gf (polynomial_through gf (clouds parts) (column parts p)) i) 0 size place place 0 within (omega arith)
     ∙ ap (λ cs. value_at gf (polynomial_through gf cs (column parts place)) i) (clouds-parts_of value k)
     ∙ ap (λ ys. value_at gf (polynomial_through gf (range_with_len 0 k) ys) i) (column-parts value size place 0 k within)
 
 module _ (value : List ℕ) (k : ℕ) (bytes : AreElements IsElement value) (small : k ≤ 256) (place : ℕ) where
-  only_at_place : IsOnlyPolynomial IsElement gf (place_polynomial value k place) (range_with_len 0 k) (part_bytes value (part_size (length value) k) k place)
+  only_at_place : IsOnlyPolynomial IsElement gf (place_polynomial value k place) (range_with_len 0 k) (part_bytes value (fragment_size (length value) k) k place)
   unfolding place_polynomial part_bytes
   only_at_place =
-      let size = part_size (length value) k in
+      let size = fragment_size (length value) k in
       let byte : ℕ → ℕ = λ number. slice_index value (number * size + place) in
       only_polynomial (range_with_len 0 k) (map byte (range_with_len 0 k)) (range-elements 0 k (omega arith))
       (map-range-elements byte 0 k (λ number. index-element value (number * size + place) bytes))
       (length-range_with_len 0 k ∙ sym (length-map-range_with_len byte 0 k)) (range-different 0 k)
 
   -- its value at the number of a part is the part's byte
-  part_byte : (number : ℕ) → number < k → value_at gf (place_polynomial value k place) number ≡ slice_index value (number * part_size (length value) k + place)
+  part_byte : (number : ℕ) → number < k → value_at gf (place_polynomial value k place) number ≡ slice_index value (number * fragment_size (length value) k + place)
   unfolding part_bytes
   part_byte number within =
-      let size = part_size (length value) k in
+      let size = fragment_size (length value) k in
       sym (get_or-map-range_with_len (value_at gf (place_polynomial value k place)) 0 k number number 0 within (omega arith))
       ∙ ap (λ xs. get_or xs number 0) only_at_place.interpolates.takes
       ∙ get_or-map-range_with_len (λ n. slice_index value (n * size + place)) 0 k number number 0 within (omega arith)
 
-  module _ (inside : place < part_size (length value) k) where
+  module _ (inside : place < fragment_size (length value) k) where
     column-fragments : (picks : List Pick) → map (λ pick. pick.bytes) picks ≡ map (fragment_of value k) (clouds picks) → column picks place ≡ map (value_at gf (place_polynomial value k place)) (clouds picks)
     column-fragments [] e = refl
     column-fragments (pick ∷ picks) e =
@@ -105,10 +106,10 @@ module _ (value : List ℕ) (k : ℕ) (bytes : AreElements IsElement value) (sma
         }))
 
 -- a part is rebuilt
-row_of_fragments : (value : List ℕ) (k number : ℕ) (picks : List Pick) → AreElements IsElement value → k ≤ 256 → AreFragments value k picks → number < k → row_at (part_size (length value) k) picks number ≡ map (λ place. slice_index value (number * part_size (length value) k + place)) (range_with_len 0 (part_size (length value) k))
+row_of_fragments : (value : List ℕ) (k number : ℕ) (picks : List Pick) → AreElements IsElement value → k ≤ 256 → AreFragments value k picks → number < k → row_at (fragment_size (length value) k) picks number ≡ map (λ place. slice_index value (number * fragment_size (length value) k + place)) (range_with_len 0 (fragment_size (length value) k))
 unfolding row_at
 row_of_fragments value k number picks bytes small fragments within =
-    let size = part_size (length value) k in
+    let size = fragment_size (length value) k in
     map-same (λ place. value_at gf (polynomial_through gf (clouds picks) (column picks place)) number)
     (λ place. slice_index value (number * size + place)) 0 size
     (λ place low high.
@@ -128,7 +129,7 @@ take-bytes value a n start room =
 pub any_parts : AnyPartsRebuild
 unfolding rebuilt_value
 any_parts value k picks bytes positive small fragments =
-    let size = part_size (length value) k in
+    let size = fragment_size (length value) k in
     ap (take (length value))
     (flat_map-same (row_at size picks) (λ number. map (λ place. slice_index value (number * size + place)) (range_with_len 0 size)) 0 k
     (λ number low high. row_of_fragments value k number picks bytes small fragments (omega arith))

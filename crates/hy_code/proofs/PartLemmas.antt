@@ -3,7 +3,8 @@ use Rattle.std.proofs.Common.{◌≡◌, ℕ, zero, suc, ◌+◌, ◌*◌, ◌<�
 use Rattle.std.proofs.lemmas.List.FromFn.{length-map-range_with_len}
 use Rattle.std.specs.List.{range_with_len}
 use Rattle.std.specs.Prelude.{slice_index}
-use Rattle.hy_code.specs.Fragments.{clouds, part_of, parts_of, part_size}
+use Rattle.hy_base.specs.Shape.{fragment_size}
+use Rattle.hy_code.specs.Fragments.{clouds, part_of, parts_of}
 use Rattle.hy_code.specs.Polynomial.{Differs, AreDifferent}
 use Rattle.hy_code.proofs.Refusals.{AreSized}
 
@@ -12,9 +13,9 @@ sized value size a zero = tt
 sized value size a (suc n) =
     (length-map-range_with_len (λ place. slice_index value (a * size + place)) 0 size, sized value size (a + 1) n)
 
-pub parts_of-sized : (value : List ℕ) (k : ℕ) → AreSized (part_size (length value) k) (parts_of value k)
+pub parts_of-sized : (value : List ℕ) (k : ℕ) → AreSized (fragment_size (length value) k) (parts_of value k)
 unfolding parts_of
-parts_of-sized value k = sized value (part_size (length value) k) 0 k
+parts_of-sized value k = sized value (fragment_size (length value) k) 0 k
 
 pub clouds-parts : (value : List ℕ) (size a n : ℕ) → clouds (map (part_of value size) (range_with_len a n)) ≡ range_with_len a n
 clouds-parts value size a zero = refl
@@ -30,7 +31,7 @@ range-different a (suc n) = (differs-range a (a + 1) n (omega arith), range-diff
 
 pub clouds-parts_of : (value : List ℕ) (k : ℕ) → clouds (parts_of value k) ≡ range_with_len 0 k
 unfolding parts_of
-clouds-parts_of value k = clouds-parts value (part_size (length value) k) 0 k
+clouds-parts_of value k = clouds-parts value (fragment_size (length value) k) 0 k
 
 pub parts_of-different : (value : List ℕ) (k : ℕ) → AreDifferent (clouds (parts_of value k))
 parts_of-different value k =

@@ -2,7 +2,7 @@
 use Rattle.std.specs.Prelude.{ℕ, ◌==◌, List, [], ◌∷◌, ◌++◌, length, take, not, nat_lt, Option, Some, None, if◌then◌else◌}
 use Rattle.std.specs.List.{list_any, position_from}
 use Rattle.std.specs.Option.{option_or, option_map}
-use Rattle.hy_code.specs.Fragments.{part_size}
+use Rattle.hy_base.specs.Shape.{fragment_size}
 use Rattle.hy_code.specs.declared.fault.RebuildFault.{RebuildFault}
 use Rattle.hy_code.specs.declared.fault.RebuildFault.TheVariants.{Few, Length, Twice}
 use Rattle.hy_code.specs.declared.pick.Pick.{Pick}
@@ -26,4 +26,4 @@ fault_of size picks = option_or (option_map Length (wrong_length size picks)) (o
 -- why the first k picks rebuild no value of this size: they are too few, or a length is wrong, or a cloud stands twice
 abbrev pub refusal : ℕ → ℕ → List Pick → Option RebuildFault
 refusal size k picks =
-    if nat_lt (length picks) k then Some (Few (length picks)) else fault_of (part_size size k) (take k picks)
+    if nat_lt (length picks) k then Some (Few (length picks)) else fault_of (fragment_size size k) (take k picks)

@@ -4,9 +4,9 @@ ghost use Rattle.std.specs.Prelude.{◌≡◌, ◌<◌, ◌≤◌, ℕ, List, []
 ghost use Rattle.std.specs.List.{range_with_len};
 ghost use Rattle.hy_code.specs.Fragments.{fragment_of};
 
-use crate::parts::{part_size, parts};
+use crate::parts::parts;
 use crate::row::row;
-use hy_base::{Blob, MAX_N, MAX_VALUE, NoMemory};
+use hy_base::{Blob, MAX_N, MAX_VALUE, NoMemory, fragment_size};
 use std::alloc::Global;
 use std::marker::Model;
 
@@ -41,7 +41,7 @@ pub fn split(alloc: Global, value: &[u8], k: u8, n: u8) -> Result<Fragments, NoM
     ensures each { IfOk result (λ fragments. fragments ≡ map (fragment_of value.now k) (range_with_len 0 n)) }
     ensures count { IfOk result (λ fragments. length fragments ≡ n) }
 {
-    let size = part_size(value.len(), k);
+    let size = fragment_size(value.len() as u32, k) as usize;
     let parts = parts(alloc, value, k)?;
     let mut rows = Vec::with_capacity(alloc, n as usize)?;
     for cloud in 0..n {

@@ -1,19 +1,11 @@
 //! The parts that a value is cut into.
 
 ghost use Rattle.std.specs.Prelude.{◌≡◌, ◌<◌, ◌≤◌, IfOk, length, slice_index};
-ghost use Rattle.hy_code.specs.Fragments.{part_of, part_size as part_size_of, parts_of};
+ghost use Rattle.hy_code.specs.Fragments.{part_of, parts_of};
 
 use crate::pick::Pick;
-use hy_base::{Blob, MAX_N, MAX_VALUE, NoMemory};
+use hy_base::{Blob, MAX_N, MAX_VALUE, NoMemory, fragment_size};
 use std::alloc::Global;
-
-/// How many bytes each of k parts has.
-pub fn part_size(size: usize, k: u8) -> usize
-    requires { 1 ≤ k }
-    ensures { result ≡ part_size_of size k }
-{
-    size.div_ceil(k as usize)
-}
 
 /// The k parts of a value, each filled up with zeros.
 pub fn parts(alloc: Global, value: &[u8], k: u8) -> Result<Vec<Pick>, NoMemory>
@@ -22,7 +14,7 @@ pub fn parts(alloc: Global, value: &[u8], k: u8) -> Result<Vec<Pick>, NoMemory>
     requires size_fits { length value.now ≤ MAX_VALUE }
     ensures { IfOk result (λ parts. parts.items ≡ parts_of value.now k) }
 {
-    let size = part_size(value.len(), k);
+    let size = fragment_size(value.len() as u32, k) as usize;
     let mut parts = Vec::with_capacity(alloc, k as usize)?;
     for number in 0..k {
         parts.push(part(alloc, value, size, number)?)?;

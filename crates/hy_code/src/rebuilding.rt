@@ -2,16 +2,16 @@
 
 ghost use Rattle.std.specs.Prelude.{◌≡◌, ◌≤◌, ◌==◌, ℕ, List, [], length, take, All, IfSome, IfOk, IfErr, MatchOption};
 ghost use Rattle.std.specs.List.{list_any};
+ghost use Rattle.hy_base.specs.Shape.{fragment_size as fragment_size_of};
 ghost use Rattle.hy_gf.specs.Gf.{IsElement};
-ghost use Rattle.hy_code.specs.Fragments.{AreFragments, clouds, part_size as part_size_of, rebuilt_value};
+ghost use Rattle.hy_code.specs.Fragments.{AreFragments, clouds, rebuilt_value};
 ghost use Rattle.hy_code.specs.Polynomial.{AreDifferent, AreElements};
 ghost use Rattle.hy_code.specs.Refusal.{refusal, wrong_length as wrong_length_of, repeated_cloud as repeated_cloud_of};
 
 use crate::fault::RebuildFault;
-use crate::parts::part_size;
 use crate::pick::Pick;
 use crate::row::row;
-use hy_base::{Blob, MAX_K, MAX_VALUE, NoMemory};
+use hy_base::{Blob, MAX_K, MAX_VALUE, NoMemory, fragment_size};
 use std::alloc::Global;
 
 /// The value of this size, from the first k picks.
@@ -31,14 +31,14 @@ pub fn rebuild(alloc: Global, size: u32, k: u8, picks: &Vec<Pick>) -> Result<Blo
         return Err(RebuildFault::Few(picks.len()));
     }
     let first = &picks[..used];
-    let part_size = part_size(size as usize, k);
-    if let Some(place) = wrong_length(part_size, first) {
+    let fragment_size = fragment_size(size, k) as usize;
+    if let Some(place) = wrong_length(fragment_size, first) {
         return Err(RebuildFault::Length(place));
     }
     if let Some(cloud) = repeated_cloud(first) {
         return Err(RebuildFault::Twice(cloud));
     }
-    let value = parts_joined(alloc, size as usize, k, first)?;
+    let value = parts_joined(alloc, size, k, first)?;
     Ok(Blob::of(value))
 }
 
@@ -70,18 +70,18 @@ fn has_cloud(picks: &[Pick], cloud: u8) -> bool
 }
 
 /// The first `size` bytes of the k parts that lie on the polynomials through the picks.
-fn parts_joined(alloc: Global, size: usize, k: u8, picks: &[Pick]) -> Result<Vec<u8>, NoMemory>
+fn parts_joined(alloc: Global, size: u32, k: u8, picks: &[Pick]) -> Result<Vec<u8>, NoMemory>
     requires one_part { 1 ≤ k }
-    requires sizes { All (λ pick. length pick.bytes ≡ part_size_of size k) picks.now }
+    requires sizes { All (λ pick. length pick.bytes ≡ fragment_size_of size k) picks.now }
     requires different { AreDifferent (clouds picks.now) }
     ensures { IfOk result (λ value. value.items ≡ rebuilt_value size k picks.now) }
 {
-    let part_size = part_size(size, k);
+    let fragment_size = fragment_size(size, k) as usize;
     let mut value = Vec::new(alloc);
     for part in 0..k {
-        let bytes = row(alloc, part_size, picks, part)?;
+        let bytes = row(alloc, fragment_size, picks, part)?;
         value.extend_from_slice(&bytes)?;
     }
-    value.truncate(size);
+    value.truncate(size as usize);
     Ok(value)
 }

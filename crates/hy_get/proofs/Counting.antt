@@ -10,7 +10,7 @@ use Rattle.hy_record.specs.declared.turn.Cue.{Cue}
 use Rattle.hy_record.specs.declared.turn.Cue.TheVariants as cues
 use Rattle.hy_record.specs.declared.turn.Out.{Out}
 use Rattle.hy_record.specs.Stamp.{Timestamp, stamp_lt}
-use Rattle.hy_record.specs.Shape.{quorum_size}
+use Rattle.hy_base.specs.Shape.{quorum_size}
 use Rattle.hy_record.specs.Record.{RecordValue, IsRecord}
 use Rattle.hy_record.specs.Clouds.{clouds_of}
 use Rattle.hy_record.proofs.Order.{stamp_lt-same}

@@ -13,7 +13,7 @@ use Rattle.hy_record.specs.declared.cloud.CloudSay.TheVariants.{Stored, Conflict
 use Rattle.hy_record.specs.declared.turn.Cue.{Cue}
 use Rattle.hy_record.specs.declared.turn.Cue.TheVariants as cues
 use Rattle.hy_record.specs.Stamp.{stamp_eq}
-use Rattle.hy_record.specs.Shape.{cloud_count, fragment_size}
+use Rattle.hy_base.specs.Shape.{cloud_count, fragment_size}
 use Rattle.hy_record.specs.Record.{RecordValue, hash_of, is_hash, is_tombstone, is_valid_fragment}
 use Rattle.hy_record.proofs.Validity.{test-valid}
 use Rattle.hy_protocol.specs.Read.{is_valid_body, valid_bytes, valid_in, first_valid, valid_picks}

@@ -19,7 +19,7 @@ use Rattle.hy_record.specs.declared.turn.Cue.{Cue}
 use Rattle.hy_record.specs.declared.turn.Cue.TheVariants as cues
 use Rattle.hy_record.specs.declared.turn.Turn.{Turn}
 use Rattle.hy_record.specs.Stamp.{Timestamp, stamp_lt, stamp_eq}
-use Rattle.hy_record.specs.Shape.{cloud_count}
+use Rattle.hy_base.specs.Shape.{cloud_count}
 use Rattle.hy_record.specs.Record.{RecordValue, is_tombstone, is_valid_fragment, IsValidFragment}
 use Rattle.hy_record.proofs.Validity.{test-valid}
 use Rattle.hy_protocol.specs.declared.plan.GetPlan.{GetPlan}

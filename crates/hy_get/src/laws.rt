@@ -4,7 +4,7 @@ ghost use Rattle.std.specs.Prelude.{◌≡◌, ◌+◌, ◌∷◌, ◌<◌, ◌�
 ghost use Rattle.hy_record.specs.declared.action.Reply.TheVariants as told;
 ghost use Rattle.hy_record.specs.declared.turn.Cue.{Cue};
 ghost use Rattle.hy_record.specs.Record.{RecordValue, IsRecord};
-ghost use Rattle.hy_record.specs.Shape.{quorum_size};
+ghost use Rattle.hy_base.specs.Shape.{quorum_size};
 ghost use Rattle.hy_record.specs.Stamp.{Timestamp};
 ghost use Rattle.hy_protocol.specs.declared.plan.GetPlan.{GetPlan};
 ghost use Rattle.hy_protocol.specs.Read.{version_of, read_reply, valid_picks, refresh_count};

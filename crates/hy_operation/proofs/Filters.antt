@@ -1,11 +1,11 @@
 -- Filters of the numbers from one place on.
 use Rattle.std.proofs.Common.{◌≡◌, ℕ, zero, suc, ◌+◌, ◌≤◌, ◌<◌, Bool, true, false, List, [], ◌∷◌, length, refl, sym, ap, ◌∙◌, inl, inr, arith, append-nil}
-use Rattle.std.specs.Prelude.{◌⊎◌, filter, ◌++◌}
+use Rattle.std.specs.Prelude.{◌⊎◌, All, filter, ◌++◌}
 use Rattle.std.specs.List.{range_with_len}
 use Rattle.std.proofs.Math.Numerals.{add-one}
 use Rattle.std.proofs.Math.Nat.{zero-add}
 use Rattle.std.proofs.lemmas.Bool.{false≢true}
-use Rattle.std.proofs.lemmas.List.Elements.{filter-append}
+use Rattle.std.proofs.lemmas.List.Elements.{All-nil, All-cons, filter-append}
 use Rattle.std.proofs.lemmas.List.FromFn.{length-range_with_len}
 use Rattle.hy_meta.proofs.Rising.{cases_bool}
 
@@ -81,3 +81,27 @@ filter-one-more p q c a (suc n) either =
 pub length-snoc : (xs : List ℕ) (x : ℕ) → length (xs ++ x ∷ []) ≡ length xs + 1
 length-snoc [] x = omega arith
 length-snoc (y ∷ ys) x = let rest = length-snoc ys x in omega (arith, rest)
+
+-- a filter goes no further than what passes
+pub filter-ends : (p : ℕ → Bool) (a n m : ℕ) → n ≤ m → ((i : ℕ) → a + n ≤ i → i < a + m → p i ≡ false) → filter p (range_with_len a m) ≡ filter p (range_with_len a n)
+filter-ends p a zero zero le outside = refl
+filter-ends p a (suc n) zero le outside = absurd (omega (arith, le))
+filter-ends p a zero (suc m) le outside =
+    let here : p a ≡ false = outside a (omega arith) (omega arith) in
+    rw here (filter-ends p (a + 1) zero m (omega arith) (λ i from below. outside i (omega (arith, from)) (omega (arith, below))))
+filter-ends p a (suc n) (suc m) le outside =
+    let rest = filter-ends p (a + 1) n m (omega (arith, le)) (λ i from below. outside i (omega (arith, from)) (omega (arith, below))) in
+    elim (cases_bool (p a)) [
+      | inl taken ↦ rw taken (ap (λ (xs : List ℕ). a ∷ xs) rest)
+      | inr left_out ↦ rw left_out rest
+    ]
+
+-- what passes has passed the test
+pub filter-passed : (p : ℕ → Bool) (a n : ℕ) → All (λ i. p i ≡ true) (filter p (range_with_len a n))
+filter-passed p a zero = All-nil (λ i. p i ≡ true)
+filter-passed p a (suc n) =
+    let rest = filter-passed p (a + 1) n in
+    elim (cases_bool (p a)) [
+      | inl taken ↦ rw taken (All-cons (λ i. p i ≡ true) a (filter p (range_with_len (a + 1) n)) taken rest)
+      | inr left_out ↦ rw left_out rest
+    ]

@@ -1,21 +1,23 @@
 -- Sets of clouds as numbers.
-use Rattle.std.proofs.Common.{◌≡◌, ℕ, zero, suc, ◌+◌, ◌*◌, ◌^◌, ◌≤◌, ◌<◌, Bool, true, List, [], ◌∷◌, length, refl, sym, ap, subst, ◌∙◌, inl, inr, arith}
-use Rattle.std.specs.Prelude.{◌==◌, filter, map, sum, count_ones, nat_lt, IsTrue}
+use Rattle.std.proofs.Common.{◌≡◌, ℕ, zero, suc, ◌+◌, ◌*◌, ◌^◌, ◌≤◌, ◌<◌, Bool, true, false, cond, List, [], ◌∷◌, length, refl, sym, ap, subst, ◌∙◌, inl, inr, arith}
+use Rattle.std.specs.Prelude.{◌==◌, filter, map, sum, count_ones, nat_lt, slice_index_or, IsTrue}
 use Rattle.std.specs.List.{range_with_len}
+use Rattle.std.specs.Int.{bit_at}
 use Rattle.std.specs.Simd.Lanes.{mask_l}
 use Rattle.std.proofs.Math.Nat.{zero-add, pow-suc, pow-le-pow_right}
 use Rattle.std.proofs.Math.Numerals.{add-one}
-use Rattle.std.proofs.lemmas.Bool.{lt-ltb}
+use Rattle.std.proofs.lemmas.Bool.{lt-ltb, eq-eqb, ne_eqb}
 use Rattle.std.proofs.lemmas.Bool.Decides.{nat_tests}
 use Rattle.std.proofs.lemmas.List.{map-append}
-use Rattle.std.proofs.lemmas.List.FromFn.{length-map-range_with_len}
+use Rattle.std.proofs.lemmas.List.FromFn.{length-map-range_with_len, get_or-map-range_with_len}
 use Rattle.std.proofs.lemmas.List.Sums.{length-filter, sum_by-append}
-use Rattle.std.proofs.lemmas.Simd.{mask_l-lt, ones-mask_l}
-use Rattle.hy_record.specs.Clouds.{set_of}
+use Rattle.std.proofs.lemmas.Nat.Bits.{bit_at_above}
+use Rattle.std.proofs.lemmas.Simd.{mask_l-lt, ones-mask_l, bit_mask_l}
+use Rattle.hy_record.specs.Clouds.{clouds_of, set_of}
 use Rattle.hy_record.specs.Record.{is_cloud_list}
-use Rattle.hy_record.specs.Shape.{cloud_count, quorum_size}
+use Rattle.hy_base.specs.Shape.{cloud_count, quorum_size}
 use Rattle.hy_meta.proofs.Rising.{cases_bool}
-use Rattle.hy_operation.proofs.Filters.{filter-passes}
+use Rattle.hy_operation.proofs.Filters.{filter-passes, filter-agrees, filter-ends}
 
 sum-cons : (x : ℕ) (xs : List ℕ) → sum (x ∷ xs) ≡ x + sum xs
 sum-cons x xs = sum_by-append (λ (n : ℕ). n) (x ∷ []) xs ∙ ap (λ (m : ℕ). m + sum xs) (zero-add x)
@@ -69,3 +71,25 @@ quorum-is-list p f k set count is counted enough =
     let ones : count_ones set ≡ quorum_size f k = ap count_ones is ∙ set-ones p (cloud_count f k) ∙ sym counted ∙ enough in
     let even : (count_ones set == quorum_size f k) ≡ true = grind (arith, nat_tests, ones) in
     rw (low, even) refl
+
+-- the bits of a set are its clouds
+bit-inside : (p : ℕ → Bool) (n i : ℕ) → i < n → (bit_at (set_of (filter p (range_with_len 0 n))) i == 1) ≡ p i
+bit-inside p n i within =
+    let at_it : slice_index_or (map p (range_with_len 0 n)) i false ≡ p i = get_or-map-range_with_len p 0 n i i false within (zero-add i) in
+    told (p i) (ap (λ (s : ℕ). bit_at s i) (set-is p n) ∙ bit_mask_l (map p (range_with_len 0 n)) i ∙ ap (λ (b : Bool). cond b 1 0) at_it)
+    where
+      told : (b : Bool) → bit_at (set_of (filter p (range_with_len 0 n))) i ≡ cond b 1 0 → (bit_at (set_of (filter p (range_with_len 0 n))) i == 1) ≡ b
+      told true is = eq-eqb (bit_at (set_of (filter p (range_with_len 0 n))) i) 1 is
+      told false is = ne_eqb (bit_at (set_of (filter p (range_with_len 0 n))) i) 1 (λ e. omega (arith, is, e))
+
+bit-outside : (p : ℕ → Bool) (n i : ℕ) → n ≤ i → (bit_at (set_of (filter p (range_with_len 0 n))) i == 1) ≡ false
+bit-outside p n i above =
+    let none = bit_at_above (set_of (filter p (range_with_len 0 n))) n i (set-lt p n) above in
+    ne_eqb (bit_at (set_of (filter p (range_with_len 0 n))) i) 1 (λ e. omega (arith, none, e))
+
+-- the clouds of a set are those that it was made of
+pub clouds-of-set : (p : ℕ → Bool) (n : ℕ) → n ≤ 16 → clouds_of (set_of (filter p (range_with_len 0 n))) ≡ filter p (range_with_len 0 n)
+unfolding clouds_of
+clouds-of-set p n few =
+    filter-ends (λ cloud. bit_at (set_of (filter p (range_with_len 0 n))) cloud == 1) 0 n 16 few (λ i from below. bit-outside p n i (omega (arith, from)))
+    ∙ filter-agrees (λ cloud. bit_at (set_of (filter p (range_with_len 0 n))) cloud == 1) p 0 n (λ i below. bit-inside p n i (omega (arith, below)))

@@ -15,8 +15,10 @@ use Rattle.hy_record.specs.declared.action.Reply.TheVariants as told
 use Rattle.hy_record.specs.declared.action.Phase.{Phase}
 use Rattle.hy_record.specs.declared.action.Phase.TheVariants as phase
 use Rattle.hy_text.specs.Line.{first_word, later_words}
-use Rattle.hy_text.specs.Slot.{◌>>=◌, number_of, value_of, value_word}
-use Rattle.hy_text.proofs.Slots.{bind_ok, ok_is, words_from_first, chosen, behind}
+use Rattle.hy_base.specs.Results.{◌>>=◌}
+use Rattle.hy_text.specs.Slot.{number_of, value_of, value_word}
+use Rattle.hy_base.proofs.Results.{bind_ok, ok_is}
+use Rattle.hy_text.proofs.Slots.{words_from_first, chosen, behind}
 use Rattle.hy_order.specs.declared.operation.End.{End}
 use Rattle.hy_order.specs.declared.operation.End.TheVariants.{Replied, Pending}
 use Rattle.hy_order.specs.declared.report.TheConstants.{LAST_STEP}

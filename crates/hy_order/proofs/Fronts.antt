@@ -1,26 +1,19 @@
 -- What was read before, in front of what is still read.
-use Rattle.std.proofs.Common.{◌≡◌, ℕ, Bool, true, false, List, [], ◌∷◌, ◌++◌, Result, Ok, Err, refl, sym, ap, ◌∙◌, append_assoc, append-nil}
+use Rattle.std.proofs.Common.{◌≡◌, ℕ, Bool, true, false, List, [], ◌∷◌, ◌++◌, Result, Ok, Err, refl, sym, ap, subst, ◌∙◌, append-nil}
 use Rattle.std.specs.Prelude.{codes, is_err, Option}
 use Rattle.hy_base.specs.declared.fault.Cause.{Cause}
 use Rattle.hy_base.specs.declared.fault.TextError.{TextError}
-use Rattle.hy_base.specs.declared.fault.TextError.TheVariants as errors
 use Rattle.hy_base.specs.declared.fault.TextFault.{TextFault}
-use Rattle.hy_text.specs.Gives.{TextFails, at_line, next_number}
+use Rattle.hy_text.specs.Gives.{fault_of, at_line, next_number}
 use Rattle.hy_text.specs.Line.{first_word, later_words}
-use Rattle.hy_text.specs.Slot.{◌>>=◌, number_of, end_of}
+use Rattle.hy_base.specs.Results.{◌>>=◌, Fails}
+use Rattle.hy_base.proofs.Results.{bind_fails, with_front, with_front-more, with_items, with_items-more}
+use Rattle.hy_text.specs.Slot.{number_of, end_of}
 use Rattle.hy_order.specs.OpenLine.{OpenLine, Rest, is_at}
 use Rattle.hy_order.specs.ReportReading.{Kind, Before, items_from, operation_lines, order_lines, held_lines}
 use Rattle.hy_order.specs.WordReaders.{numbers_of}
 
 -- ---- the numbers of an order
-
--- the values that were read before, and those that are still read
-abbrev pub with_front : List ℕ → Result (List ℕ) Cause → Result (List ℕ) Cause
-with_front front later = later >>= λ xs. Ok (front ++ xs)
-
-with_front-more : (front : List ℕ) (x : ℕ) (later : Result (List ℕ) Cause) → with_front front (later >>= λ xs. Ok (x ∷ xs)) ≡ with_front (front ++ x ∷ []) later
-with_front-more front x (Ok xs) = ap (λ (all : List ℕ). Ok all) (sym (append_assoc front (x ∷ []) xs))
-with_front-more front x (Err cause) = refl
 
 pub numbers_go_on : (front : List ℕ) (words : List (List ℕ)) (number : ℕ) (total : Result (List ℕ) Cause)
     → is_err (end_of words) ≡ true → number_of 1 4294967295 (first_word words) ≡ Ok number
@@ -47,15 +40,6 @@ numbers_end front (word ∷ words) total none so_far = absurd cc
 
 -- ---- the lines of a kind
 
--- the items that were read before, and those that are still read
-abbrev pub with_items : {A : Type 0} → List A → Result (List A × Rest) TextFault → Result (List A × Rest) TextFault
-with_items front later = later >>= λ more. Ok (front ++ more.0, more.1)
-
-with_items-more : {A : Type 0} (front : List A) (item : A) (later : Result (List A × Rest) TextFault)
-    → with_items front (later >>= λ more. Ok (item ∷ more.0, more.1)) ≡ with_items (front ++ item ∷ []) later
-with_items-more {A} front item (Ok more) = ap (λ (all : List A). Ok (all, more.1)) (sym (append_assoc front (item ∷ []) more.0))
-with_items-more front item (Err fault) = refl
-
 -- a line of the kind is due
 abbrev pub is_next_due : {S A : Type 0} → Kind S A → S → List OpenLine → Bool
 is_next_due kind before [] = false
@@ -77,13 +61,13 @@ items_go_on {A = A} kind front before number line lines item total due read so_f
     ∙ ap (with_items front) (sym (items_from-due kind before number line lines due)) ∙ so_far
 
 pub items_fail : {S A : Type 0} (kind : Kind S A) (error : TextError) (front : List A) (before : S) (number : ℕ) (line : OpenLine) (lines : List OpenLine) (total : Result (List A × Rest) TextFault)
-    → kind.is_due before line.keyword ≡ true → TextFails error (at_line number (kind.read before line))
+    → kind.is_due before line.keyword ≡ true → Fails fault_of error (at_line number (kind.read before line))
     → with_items front (items_from kind before number (line ∷ lines)) ≡ total
-    → TextFails error total
-items_fail kind errors.NoMemory front before number line lines total due read so_far = tt
-items_fail {A = A} kind (errors.Fault fault) front before number line lines total due read so_far =
-    sym so_far ∙ ap (with_items front) (items_from-due kind before number line lines due)
-    ∙ ap (λ (first : Result A TextFault). with_items front (first >>= λ item. items_from kind (kind.next before item) (next_number number) lines >>= λ more. Ok (item ∷ more.0, more.1))) read
+    → Fails fault_of error total
+items_fail {A = A} kind error front before number line lines total due fails so_far =
+    subst (Fails fault_of error) (sym (ap (with_items front) (items_from-due kind before number line lines due)) ∙ so_far)
+    (bind_fails fault_of error _ (λ (more : List A × Rest). Ok (front ++ more.0, more.1))
+    (bind_fails fault_of error (at_line number (kind.read before line)) (λ item. items_from kind (kind.next before item) (next_number number) lines >>= λ more. Ok (item ∷ more.0, more.1)) fails))
 
 items_from-other : {S A : Type 0} (kind : Kind S A) (before : S) (number : ℕ) (lines : List OpenLine) → is_next_due kind before lines ≡ false
     → items_from kind before number lines ≡ Ok ([], record { number = number; lines = lines })

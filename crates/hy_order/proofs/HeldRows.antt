@@ -15,7 +15,8 @@ use Rattle.hy_record.specs.Clouds.{clouds_of}
 use Rattle.hy_text.specs.Line.{first_word, later_words}
 use Rattle.hy_text.specs.Slot.{key_word, end_of}
 use Rattle.hy_text.proofs.Keys.{key_again}
-use Rattle.hy_text.proofs.Slots.{bind_ok, ok_is, end_takes, words_from_first}
+use Rattle.hy_base.proofs.Results.{bind_ok, ok_is}
+use Rattle.hy_text.proofs.Slots.{end_takes, words_from_first}
 use Rattle.hy_order.specs.declared.held.Held.{Held}
 use Rattle.hy_order.specs.OpenLine.{OpenLine, Rest}
 use Rattle.hy_order.specs.Report.{held_row, stamp_words, cloud_word}

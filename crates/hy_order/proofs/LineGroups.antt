@@ -6,7 +6,8 @@ use Rattle.hy_base.specs.declared.fault.Cause.{Cause}
 use Rattle.hy_base.specs.declared.fault.TextFault.{TextFault}
 use Rattle.hy_text.specs.Gives.{at_line, next_number}
 use Rattle.hy_text.specs.Line.{ended_line}
-use Rattle.hy_text.proofs.Slots.{bind_ok, ok_is, at_line_ok, ended_ok}
+use Rattle.hy_base.proofs.Results.{bind_ok, ok_is}
+use Rattle.hy_text.proofs.Slots.{at_line_ok, ended_ok}
 use Rattle.hy_text.specs.Slot.{end_of_line}
 use Rattle.hy_order.specs.OpenLine.{OpenLine, Rest, opened}
 use Rattle.hy_order.specs.ReportReading.{Kind, items_from, closed}

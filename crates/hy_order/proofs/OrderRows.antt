@@ -8,10 +8,12 @@ use Rattle.std.proofs.lemmas.Slice.Eq.{bytes_eq-Decides}
 use Rattle.hy_base.specs.declared.fault.Cause.TheVariants.{BadKey}
 use Rattle.hy_record.specs.Key.{is_key}
 use Rattle.hy_text.specs.Line.{first_word, later_words}
-use Rattle.hy_text.specs.Slot.{◌>>=◌, keyword, number_of}
+use Rattle.hy_base.specs.Results.{◌>>=◌}
+use Rattle.hy_text.specs.Slot.{keyword, number_of}
 use Rattle.hy_text.proofs.Numbers.{number_takes, number_again}
 use Rattle.hy_text.proofs.Printed.{length-key}
-use Rattle.hy_text.proofs.Slots.{bind_ok, ok_is, keyword_takes, words_from_first}
+use Rattle.hy_base.proofs.Results.{bind_ok, ok_is}
+use Rattle.hy_text.proofs.Slots.{keyword_takes, words_from_first}
 use Rattle.hy_order.specs.declared.order.Order.{Order}
 use Rattle.hy_order.specs.OpenLine.{OpenLine, Rest}
 use Rattle.hy_order.specs.Report.{order_row}

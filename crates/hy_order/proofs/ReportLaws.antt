@@ -23,12 +23,14 @@ use Rattle.hy_record.specs.declared.action.Phase.{Phase}
 use Rattle.hy_record.specs.declared.action.Phase.TheVariants as phase
 use Rattle.hy_text.specs.Gives.{GivesText, at_line, next_number}
 use Rattle.hy_text.specs.Line.{Line, ended_line, text_of, lines_of, lines_of_pieces, words_of, pieces_at, first_word, later_words, is_word, is_row}
-use Rattle.hy_text.specs.Slot.{◌>>=◌, keyword, number_of, end_of}
+use Rattle.hy_base.specs.Results.{◌>>=◌}
+use Rattle.hy_text.specs.Slot.{keyword, number_of, end_of}
 use Rattle.hy_text.proofs.Numbers.{number_again}
 use Rattle.hy_text.proofs.Pieces.{pieces_at-some}
 use Rattle.hy_text.proofs.Printed.{is_word-decimal, is_word-key, is_word-value_word}
 use Rattle.hy_text.proofs.Rows.{lines_of-text_of, text_of-lines_of}
-use Rattle.hy_text.proofs.Slots.{bind_ok, ok_is, keyword_takes, end_takes, at_line_ok}
+use Rattle.hy_base.proofs.Results.{bind_ok, ok_is}
+use Rattle.hy_text.proofs.Slots.{keyword_takes, end_takes, at_line_ok}
 use Rattle.hy_order.specs.declared.held.Held.{Held}
 use Rattle.hy_order.specs.declared.operation.End.{End}
 use Rattle.hy_order.specs.declared.operation.End.TheVariants.{Replied, Pending}

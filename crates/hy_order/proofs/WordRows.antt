@@ -14,7 +14,8 @@ use Rattle.hy_text.specs.Slot.{number_of, value_of, key_word, value_word}
 use Rattle.hy_text.proofs.Keys.{key_takes, key_again}
 use Rattle.hy_text.proofs.Numbers.{number_takes, number_again}
 use Rattle.hy_text.proofs.Printed.{length-decimal, length-key, length-value_word}
-use Rattle.hy_text.proofs.Slots.{bind_ok, ok_is, chosen, behind, words_from_first}
+use Rattle.hy_base.proofs.Results.{bind_ok, ok_is}
+use Rattle.hy_text.proofs.Slots.{chosen, behind, words_from_first}
 use Rattle.hy_text.proofs.Values.{value_takes, value_again}
 use Rattle.hy_order.specs.Report.{stamp_words, action_words}
 use Rattle.hy_order.specs.ReportRanges.{IsTextValue, IsTextStamp, IsTextAction}

@@ -1,13 +1,15 @@
 -- Reading the text of a report: the report, or the first fault.
-use Rattle.std.specs.Prelude.{◌≡◌, ℕ, ◌+◌, Bool, true, false, if◌then◌else◌, List, [], ◌∷◌, length, map, codes, Option, Some, None, Result, Ok, Err}
+use Rattle.std.specs.Prelude.{ℕ, ◌+◌, Bool, true, false, if◌then◌else◌, List, [], ◌∷◌, length, map, codes, Option, Some, None, Result, Ok, Err}
 use Rattle.std.specs.Str.{bytes_eq}
 use Rattle.hy_base.specs.declared.fault.Cause.{Cause}
 use Rattle.hy_base.specs.declared.fault.Cause.TheVariants.{NoEnd, Extra}
 use Rattle.hy_base.specs.declared.fault.TextError.{TextError}
 use Rattle.hy_base.specs.declared.fault.TextFault.{TextFault}
-use Rattle.hy_text.specs.Gives.{TextFails, at_line, next_number}
+use Rattle.hy_base.specs.Results.{◌>>=◌}
+use Rattle.hy_base.specs.Results as results
+use Rattle.hy_text.specs.Gives.{fault_of, at_line, next_number}
 use Rattle.hy_text.specs.Line.{lines_of, first_word, later_words}
-use Rattle.hy_text.specs.Slot.{◌>>=◌, keyword, number_of, end_of, end_of_line}
+use Rattle.hy_text.specs.Slot.{keyword, number_of, end_of, end_of_line}
 use Rattle.hy_order.specs.declared.held.Held.{Held}
 use Rattle.hy_order.specs.declared.operation.Operation.{Operation}
 use Rattle.hy_order.specs.declared.order.Order.{Order}
@@ -94,8 +96,7 @@ items_from kind before number (line ∷ lines) =
 
 -- the code answers the items, and leaves the lines that the definition leaves, or answers its fault; or memory ran out
 abbrev pub TakesLines : {A : Type 0} → Result A TextError → Rest → Result (A × Rest) TextFault → Type 0
-TakesLines (Ok items) left due = due ≡ Ok (items, left)
-TakesLines (Err error) left due = TextFails error due
+TakesLines result left due = results.Gives fault_of (λ items. (items, left)) result due
 
 -- what stands before an operation: the number and the step of the one before it
 pub record Before : Type 0 where

@@ -1,5 +1,5 @@
 -- Readers of several words: they answer a value and the words that are left, or why the first word that does not fit does not.
-use Rattle.std.specs.Prelude.{◌≡◌, ℕ, zero, suc, ◌+◌, ◌^◌, min, Bool, true, ◌==◌, if◌then◌else◌, List, [], ◌∷◌, codes, Option, Some, None, Result, Ok, Err}
+use Rattle.std.specs.Prelude.{ℕ, zero, suc, ◌+◌, ◌^◌, min, Bool, true, ◌==◌, if◌then◌else◌, List, [], ◌∷◌, codes, Option, Some, None, Result, Ok, Err}
 use Rattle.std.specs.List.{list_any}
 use Rattle.std.specs.Cmp.Lexicographic.{slice_cmp}
 use Rattle.std.specs.Ordering.{nat_cmp, is_lt}
@@ -15,27 +15,14 @@ use Rattle.hy_record.specs.declared.action.Reply.{Reply}
 use Rattle.hy_record.specs.declared.action.Reply.TheVariants as told
 use Rattle.hy_record.specs.declared.action.Phase.{Phase}
 use Rattle.hy_record.specs.declared.action.Phase.TheVariants as phase
-use Rattle.hy_text.specs.Gives.{Fails}
 use Rattle.hy_text.specs.Line.{first_word, later_words}
-use Rattle.hy_text.specs.Slot.{◌>>=◌, number_of, value_of, key_word}
-use Rattle.hy_text.specs.declared.error.LineError.{LineError}
+use Rattle.hy_base.specs.Results.{◌>>=◌}
+use Rattle.hy_text.specs.Slot.{number_of, value_of, key_word}
 use Rattle.hy_order.specs.History.{is_phase_of}
 use Rattle.hy_order.specs.Report.{cloud_word}
 use Rattle.hy_order.specs.declared.operation.End.{End}
 use Rattle.hy_order.specs.declared.operation.End.TheVariants.{Replied, Pending}
 use Rattle.hy_order.specs.declared.report.TheConstants.{LAST_STEP}
-
--- ---- what code answers that reads so
-
--- the code answers the value, and leaves the words that the definition leaves, or answers its cause; or memory ran out
-abbrev pub Takes : {A : Type 0} → Result A LineError → List (List ℕ) → Result (A × List (List ℕ)) Cause → Type 0
-Takes (Ok x) left due = due ≡ Ok (x, left)
-Takes (Err error) left due = Fails error due
-
--- the same where no memory is taken
-abbrev pub TakesExactly : {A : Type 0} → Result A Cause → List (List ℕ) → Result (A × List (List ℕ)) Cause → Type 0
-TakesExactly (Ok x) left due = due ≡ Ok (x, left)
-TakesExactly (Err cause) left due = due ≡ Err cause
 
 -- ---- slots
 

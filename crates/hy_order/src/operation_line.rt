@@ -1,12 +1,10 @@
 //! The words of the line of an operation.
 
 ghost use Rattle.std.specs.Prelude.{◌≡◌, IfOk, ◌≤◌};
-ghost use Rattle.hy_text.specs.Gives.{Gives};
+ghost use Rattle.hy_text.specs.Gives.{Gives, Takes, TakesExactly};
 ghost use Rattle.hy_order.specs.History.{is_phase_of};
 ghost use Rattle.hy_order.specs.ReportReading.{operation_of};
 ghost use Rattle.hy_order.specs.WordReaders.{
-  Takes,
-  TakesExactly,
   phase_of,
   phase_word_of,
   put_from,

@@ -2,9 +2,8 @@
 
 ghost use Rattle.std.specs.Prelude.{◌≡◌, ◌+◌, ◌<◌, ◌^◌, ◌≤◌, IfOk, MatchOption, None, Some};
 ghost use Rattle.std.specs.Option.{option_copied};
-ghost use Rattle.hy_text.specs.Gives.{Gives};
+ghost use Rattle.hy_text.specs.Gives.{Gives, TakesExactly};
 ghost use Rattle.hy_order.specs.WordReaders.{
-  TakesExactly,
   number_after,
   due_key,
   is_above,

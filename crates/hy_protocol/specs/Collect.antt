@@ -6,7 +6,7 @@ use Rattle.hy_record.specs.declared.message.MetaAsk.TheVariants as asks
 use Rattle.hy_record.specs.declared.action.Reply.{Reply}
 use Rattle.hy_record.specs.declared.action.Reply.TheVariants as told
 use Rattle.hy_record.specs.Stamp.{Timestamp}
-use Rattle.hy_record.specs.Shape.{cloud_count}
+use Rattle.hy_base.specs.Shape.{cloud_count}
 use Rattle.hy_record.specs.declared.turn.Cue.{Cue}
 use Rattle.hy_record.specs.declared.turn.Out.{Out}
 use Rattle.hy_record.specs.declared.turn.Out.TheVariants as outs

@@ -5,7 +5,7 @@ use Rattle.hy_record.specs.declared.action.Action.TheVariants as asked
 use Rattle.hy_record.specs.declared.action.Phase.{Phase}
 use Rattle.hy_record.specs.declared.action.Phase.TheVariants as phases
 use Rattle.hy_record.specs.Stamp.{Timestamp}
-use Rattle.hy_record.specs.Shape.{cloud_count, quorum_size}
+use Rattle.hy_base.specs.Shape.{cloud_count, quorum_size}
 use Rattle.hy_record.specs.Record.{RecordValue}
 use Rattle.hy_record.specs.declared.turn.Cue.{Cue}
 use Rattle.hy_protocol.specs.declared.plan.PutPlan.{PutPlan}

@@ -6,7 +6,7 @@ use Rattle.hy_record.specs.declared.message.MetaAsk.TheVariants as asks
 use Rattle.hy_record.specs.declared.action.Reply.{Reply}
 use Rattle.hy_record.specs.declared.action.Reply.TheVariants as told
 use Rattle.hy_record.specs.Stamp.{Timestamp, stamp_lt, stamp_eq}
-use Rattle.hy_record.specs.Shape.{cloud_count}
+use Rattle.hy_base.specs.Shape.{cloud_count}
 use Rattle.hy_record.specs.Record.{RecordValue, is_tombstone, is_valid_fragment}
 use Rattle.hy_record.specs.Clouds.{clouds_of}
 use Rattle.hy_meta.specs.Service.{stamp_of_record}

@@ -14,10 +14,12 @@ use Rattle.hy_base.specs.declared.fault.TextFault.{TextFault}
 use Rattle.hy_base.specs.declared.limits.TheConstants.{MAX_EVENTS, MAX_SESSIONS}
 use Rattle.hy_text.specs.Gives.{GivesText, at_line}
 use Rattle.hy_text.specs.Line.{Line, ended_line, text_of, lines_of, first_word, later_words, is_row}
-use Rattle.hy_text.specs.Slot.{◌>>=◌, end_of_line}
+use Rattle.hy_base.specs.Results.{◌>>=◌}
+use Rattle.hy_text.specs.Slot.{end_of_line}
 use Rattle.hy_text.proofs.Printed.{is_word-decimal, is_word-key, is_word-value_word}
 use Rattle.hy_text.proofs.Rows.{lines_of-text_of, text_of-lines_of}
-use Rattle.hy_text.proofs.Slots.{bind_ok, ok_is, words_from_first, at_line_ok, ended_ok}
+use Rattle.hy_base.proofs.Results.{bind_ok, ok_is}
+use Rattle.hy_text.proofs.Slots.{words_from_first, at_line_ok, ended_ok}
 use Rattle.hy_quiet.specs.declared.event.Event.{Event}
 use Rattle.hy_quiet.specs.declared.event.Event.TheVariants.{Open, Put, Get}
 use Rattle.hy_quiet.specs.Event.{joined_count}

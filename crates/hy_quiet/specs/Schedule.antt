@@ -10,7 +10,8 @@ use Rattle.hy_base.specs.declared.limits.TheConstants.{MAX_EVENTS, MAX_SESSIONS,
 use Rattle.hy_record.specs.Key.{is_key}
 use Rattle.hy_text.specs.Gives.{at_line}
 use Rattle.hy_text.specs.Line.{Line, text_of, lines_of, first_word, later_words}
-use Rattle.hy_text.specs.Slot.{◌>>=◌, number_of, value_of, key_word, end_of, value_word, end_of_line}
+use Rattle.hy_base.specs.Results.{◌>>=◌}
+use Rattle.hy_text.specs.Slot.{number_of, value_of, key_word, end_of, value_word, end_of_line}
 use Rattle.hy_text.specs.Hex.{IsBytes}
 use Rattle.hy_quiet.specs.declared.event.Event.{Event}
 use Rattle.hy_quiet.specs.declared.event.Event.TheVariants.{Open, Put, Get}

@@ -1,7 +1,7 @@
 //! What a replay keeps of a key: the numbers of its operations, and its current version.
 
 ghost use Rattle.std.specs.Prelude.{◌≡◌, ◌+◌, ◌<◌, [], IfOk};
-ghost use Rattle.hy_record.specs.Stamp.{STAMP_END};
+ghost use Rattle.hy_base.specs.declared.limits.TheConstants.{SN_END};
 ghost use Rattle.hy_quiet.specs.Replay.{answer};
 ghost use Rattle.hy_quiet.specs.KeyState.{put_count, stamp_upon, state_after_put, state_after_get, held_copy};
 
@@ -60,7 +60,7 @@ impl KeyState {
         client: u32,
         value: &Blob,
     ) -> Result<Stamp, NoMemory>
-        requires { put_count self.old.1 + 1 < STAMP_END }
+        requires { put_count self.old.1 + 1 < SN_END }
         ensures stamp { IfOk result (λ stamp. stamp ≡ stamp_upon self.old.1 client) }
         ensures state { IfOk result (λ stamp. self.new ≡ state_after_put self.old number value.now stamp) }
     {

@@ -6,7 +6,7 @@ ghost use Rattle.std.specs.List.{filter_map};
 ghost use Rattle.std.specs.List.Sorted.{IsStrictlySortedBy};
 ghost use Rattle.std.specs.Map.{keys_of};
 ghost use Rattle.std.specs.Ordering.{nat_cmp};
-ghost use Rattle.hy_record.specs.Stamp.{STAMP_END};
+ghost use Rattle.hy_base.specs.declared.limits.TheConstants.{SN_END};
 ghost use Rattle.hy_quiet.specs.Replay.{answer};
 ghost use Rattle.hy_quiet.specs.KeyState.{put_count, stamp_upon, state_after_put, state_after_get};
 ghost use Rattle.hy_quiet.specs.KeyStates.{state_at, with_state, order_at, held_at};
@@ -53,7 +53,7 @@ impl KeyStates {
         client: u32,
         value: &Blob,
     ) -> Result<Stamp, NoMemory>
-        requires { put_count (state_at self.old key).1 + 1 < STAMP_END }
+        requires { put_count (state_at self.old key).1 + 1 < SN_END }
         ensures stamp { IfOk result (λ stamp. stamp ≡ stamp_upon (state_at self.old key).1 client) }
         ensures states { IfOk result (λ stamp. self.new
             ≡ with_state self.old key (state_after_put (state_at self.old key) number value.now stamp)) }

@@ -9,7 +9,7 @@ use Rattle.std.proofs.Math.Nat.{pow-suc, pow-le-pow_right}
 use Rattle.std.proofs.lemmas.Bool.{cases_lt, eqb-true}
 use Rattle.std.proofs.lemmas.Bool.Decides.{nat_tests}
 use Rattle.std.proofs.lemmas.Nat.Bits.{bit_at_lowest, bit_at-suc, bit_at-lt, bit_at_above}
-use Rattle.hy_record.specs.Shape.{cloud_count, quorum_size}
+use Rattle.hy_base.specs.Shape.{cloud_count, quorum_size}
 use Rattle.hy_record.specs.Clouds.{clouds_of}
 use Rattle.hy_record.specs.Record.{RecordValue, IsRecord, most_faults, is_part_count}
 use Rattle.hy_base.specs.declared.limits.TheConstants.{MAX_K}

@@ -6,13 +6,9 @@ use Rattle.byteorder.specs.Endian.{big_bytes, big_number}
 use Rattle.byteorder.specs.Numbers.{big_from-lt, big_number-reads_back, length-bytes_high_first}
 use Rattle.hy_record.specs.declared.record.fault.RecordFault.{RecordFault}
 use Rattle.hy_record.specs.declared.record.fault.RecordFault.TheVariants as faults
-use Rattle.hy_record.specs.Reading.{◌>>=◌, number_at, field_at}
+use Rattle.hy_record.specs.Reading.{number_at, field_at}
+use Rattle.hy_base.proofs.Results.{bind_ok}
 use Rattle.hy_record.proofs.Numbers.{IsBytes, IsBytes-drop, bytes_high_first-big_from}
-
--- the value of a step that did not fail
-pub bind_ok : {A B : Type 0} (r : Result A RecordFault) (f : A → Result B RecordFault) (y : B) → (r >>= f) ≡ Ok y → (x : A) × (r ≡ Ok x) × (f x ≡ Ok y)
-bind_ok (Ok x) f y e = (x, refl, e)
-bind_ok (Err d) f y e = absurd cc
 
 -- a test that did not fail
 pub guard_false : {A : Type 0} (b : Bool) (d : RecordFault) (x y : A) → cond b (Err d) (Ok x) ≡ Ok y → (b ≡ false) × (x ≡ y)
@@ -22,12 +18,6 @@ guard_false false d x y e = (refl, cc)
 pub guard_true : {A : Type 0} (b : Bool) (d : RecordFault) (x y : A) → cond b (Ok x) (Err d) ≡ Ok y → (b ≡ true) × (x ≡ y)
 guard_true true d x y e = (refl, cc)
 guard_true false d x y e = absurd cc
-
-abbrev done : {A : Type 0} → A → Result A RecordFault
-done x = Ok x
-
-pub ok_is : {A : Type 0} (x y : A) → done x ≡ done y → x ≡ y
-ok_is x y e = cc
 
 -- what a reader took from the front
 pub record Takes (bytes text rest : List ℕ) : Type 0 where

@@ -11,9 +11,9 @@ use Rattle.hex.specs.Hex.{decode_sized}
 use Rattle.hex.proofs.HexLemmas.{decode_sized-encode_lower, length-encode_with}
 use Rattle.byteorder.specs.Endian.{big_bytes, big_number}
 use Rattle.byteorder.specs.Numbers.{big_number-reads_back}
-use Rattle.hy_base.specs.declared.limits.TheConstants.{MAX_KEY}
+use Rattle.hy_base.specs.declared.limits.TheConstants.{MAX_KEY, SN_END}
 use Rattle.hy_record.specs.declared.key.KeyFault.{KeyFault}
-use Rattle.hy_record.specs.Stamp.{Timestamp, IsStamp, STAMP_END, stamp_of}
+use Rattle.hy_record.specs.Stamp.{Timestamp, IsStamp, stamp_of}
 use Rattle.hy_record.specs.Key.{is_key, is_key_byte, first_bad_byte, key_of}
 use Rattle.hy_record.specs.Name.{hex_number, name_text}
 use Rattle.hy_record.proofs.Numbers.{IsBytes}
@@ -125,4 +125,4 @@ pub some_is : {A : Type 0} (x y : A) → Some x ≡ Some y → x ≡ y
 some_is x y e = cc
 
 pub stamp_of-range : (stamp : Timestamp) → IsStamp stamp → stamp_of stamp.sn stamp.cid ≡ Some stamp
-stamp_of-range stamp ranged = let below : nat_lt stamp.sn STAMP_END ≡ true = let h = ranged.number in grind (arith, nat_tests) in rw below refl
+stamp_of-range stamp ranged = let below : nat_lt stamp.sn SN_END ≡ true = let h = ranged.number in grind (arith, nat_tests) in rw below refl

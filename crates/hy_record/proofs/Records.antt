@@ -9,32 +9,34 @@ use Rattle.std.proofs.lemmas.Bool.Decides.{nat_tests}
 use Rattle.std.proofs.lemmas.List.{append-nil, nil_from_length, take_at, drop_at, take-append-drop, length-append, length-take}
 use Rattle.std.proofs.lemmas.List.Elements.{All-nil, All-cons, All-head, All-tail}
 use Rattle.byteorder.specs.Endian.{big_bytes}
-use Rattle.hy_base.specs.declared.limits.TheConstants.{MAX_F, MAX_K, MAX_VALUE}
+use Rattle.hy_base.specs.declared.limits.TheConstants.{MAX_F, MAX_K, MAX_VALUE, SN_END}
 use Rattle.hy_record.specs.declared.kind.Kind.{Kind}
 use Rattle.hy_record.specs.declared.kind.Kind.TheVariants.{Tomb, Whole, Coded}
 use Rattle.hy_record.specs.declared.record.fault.RecordFault.{RecordFault}
 use Rattle.hy_record.specs.declared.record.fault.RecordFault.TheVariants as faults
 use Rattle.hy_record.specs.declared.record.reading.Layout.{Layout}
-use Rattle.hy_record.specs.Stamp.{Timestamp, STAMP_END, IsStamp, IsWritten}
+use Rattle.hy_record.specs.Stamp.{Timestamp, IsStamp, IsWritten}
 use Rattle.hy_record.specs.Hash.{HASH_SIZE, IsHash}
 use Rattle.hy_record.specs.Record.{RecordValue, IsRecord, most_bytes, most_faults, is_part_count, is_cloud_list, hash_count, tombstone}
 use Rattle.hy_record.specs.Spelling.{stamp_bytes, layout_bytes, kind_byte, value_bytes, record_bytes, SpellsKind, SpellsRecord}
-use Rattle.hy_record.specs.Reading.{◌>>=◌, Gives, IsLayout, field_at, stamp_at, layout_at, hash_at, hashes_at, value_at, body_at, version_at, kind_at, record_at, record_of}
+use Rattle.hy_base.specs.Results.{◌>>=◌}
+use Rattle.hy_base.proofs.Results.{bind_ok, ok_is}
+use Rattle.hy_record.specs.Reading.{Gives, IsLayout, field_at, stamp_at, layout_at, hash_at, hashes_at, value_at, body_at, version_at, kind_at, record_at, record_of}
 use Rattle.hy_record.proofs.Numbers.{IsBytes, IsBytes-drop}
-use Rattle.hy_record.proofs.Fields.{bind_ok, guard_false, guard_true, ok_is, Takes, Takes-then, field_takes, field_again}
+use Rattle.hy_record.proofs.Fields.{guard_false, guard_true, Takes, Takes-then, field_takes, field_again}
 
 -- ---- timestamps
 
 abbrev is_number : ℕ → Bool
-is_number sn = nat_lt 0 sn && nat_lt sn STAMP_END
+is_number sn = nat_lt 0 sn && nat_lt sn SN_END
 
 abbrev is_client : ℕ → Bool
 is_client cid = nat_lt 0 cid
 
-number_facts : (sn : ℕ) → is_number sn ≡ true → (0 < sn) × (sn < STAMP_END)
+number_facts : (sn : ℕ) → is_number sn ≡ true → (0 < sn) × (sn < SN_END)
 number_facts sn e = grind (arith, nat_tests)
 
-number_test : (sn : ℕ) → 0 < sn → sn < STAMP_END → is_number sn ≡ true
+number_test : (sn : ℕ) → 0 < sn → sn < SN_END → is_number sn ≡ true
 number_test sn some below = grind (arith, nat_tests)
 
 stamp_takes : (whole : ℕ) (bytes : List ℕ) (x : Timestamp × List ℕ) → IsBytes bytes → stamp_at whole bytes ≡ Ok x → Takes bytes (stamp_bytes x.0) x.1 × IsStamp x.0 × IsWritten x.0

@@ -7,7 +7,7 @@ use Rattle.std.proofs.lemmas.Slice.Eq.{bytes_eq-Decides}
 use Rattle.sha2.specs.Sha256.{sha256}
 use Rattle.hy_record.specs.declared.kind.Kind.{Kind}
 use Rattle.hy_record.specs.declared.kind.Kind.TheVariants.{Tomb, Whole, Coded}
-use Rattle.hy_record.specs.Shape.{cloud_count, fragment_size}
+use Rattle.hy_base.specs.Shape.{cloud_count, fragment_size}
 use Rattle.hy_record.specs.Record.{RecordValue, hash_of, is_hash, is_tombstone, is_valid_fragment, IsValidFragment}
 
 all-four : (a b c d : Bool) → (a && b && c && d) ≡ true → (a ≡ true) × (b ≡ true) × (c ≡ true) × (d ≡ true)

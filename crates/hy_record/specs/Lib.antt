@@ -1,7 +1,6 @@
 pub mod Stamp
 pub mod Key
 pub mod HeldKey
-pub mod Shape
 pub mod Hash
 pub mod Record
 pub mod HeldRecord

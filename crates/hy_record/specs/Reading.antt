@@ -1,34 +1,26 @@
 -- Reading a record from left to right, with the first fault that is met.
-use Rattle.std.specs.Prelude.{◌≡◌, ℕ, zero, suc, ◌-◌, ◌≤◌, IsTrue, Bool, ◌&&◌, ◌==◌, nat_lt, nat_le, List, [], ◌∷◌, length, take, drop, Result, Ok, Err, if◌then◌else◌}
+use Rattle.std.specs.Prelude.{ℕ, zero, suc, ◌-◌, ◌≤◌, IsTrue, Bool, ◌&&◌, ◌==◌, nat_lt, nat_le, List, [], ◌∷◌, length, take, drop, Option, Some, None, Result, Ok, Err, if◌then◌else◌}
 use Rattle.byteorder.specs.Endian.{big_number}
-use Rattle.hy_base.specs.declared.limits.TheConstants.{MAX_F, MAX_K, MAX_VALUE}
+use Rattle.hy_base.specs.Results.{◌>>=◌}
+use Rattle.hy_base.specs.Results as results
+use Rattle.hy_base.specs.declared.limits.TheConstants.{MAX_F, MAX_K, MAX_VALUE, SN_END}
 use Rattle.hy_record.specs.declared.kind.Kind.{Kind}
 use Rattle.hy_record.specs.declared.kind.Kind.TheVariants.{Tomb, Whole, Coded}
 use Rattle.hy_record.specs.declared.record.fault.RecordFault.{RecordFault}
 use Rattle.hy_record.specs.declared.record.fault.RecordFault.TheVariants as faults
 use Rattle.hy_record.specs.declared.record.reading.Layout.{Layout}
-use Rattle.hy_record.specs.Stamp.{Timestamp, STAMP_END}
+use Rattle.hy_record.specs.Stamp.{Timestamp}
 use Rattle.hy_record.specs.Hash.{HASH_SIZE}
 use Rattle.hy_record.specs.Record.{RecordValue, is_part_count, is_cloud_list, hash_count, tombstone}
 
-infixl 10 ◌>>=◌
-abbrev pub ◌>>=◌ : {A B : Type 0} → Result A RecordFault → (A → Result B RecordFault) → Result B RecordFault
-(Ok x) >>= f = f x
-(Err e) >>= f = Err e
-
--- the fault is the one that reading meets, unless memory ran out
-abbrev pub Fails : {Y : Type 0} → RecordFault → Result Y RecordFault → Type 0
-Fails faults.NoMemory read = Unit {0}
-Fails (faults.Short size) read = read ≡ Err (faults.Short size)
-Fails (faults.BadVersion byte) read = read ≡ Err (faults.BadVersion byte)
-Fails (faults.BadKind byte) read = read ≡ Err (faults.BadKind byte)
-Fails (faults.BadShape place) read = read ≡ Err (faults.BadShape place)
-Fails (faults.Extra place) read = read ≡ Err (faults.Extra place)
+-- the fault that an error of reading is; want of memory is none
+abbrev pub fault_of : RecordFault → Option RecordFault
+fault_of faults.NoMemory = None
+fault_of fault = Some fault
 
 -- what a function returned, as it is seen, is what reading gives, unless memory ran out
 abbrev pub Gives : {X Y : Type 0} → (X → Y) → Result X RecordFault → Result Y RecordFault → Type 0
-Gives view (Ok x) read = read ≡ Ok (view x)
-Gives view (Err e) read = Fails e read
+Gives view result read = results.Gives fault_of view result read
 
 -- the number in the first bytes, and the bytes behind it; whole is the length of all that is read
 abbrev pub number_at : ℕ → ℕ → List ℕ → Result (ℕ × List ℕ) RecordFault
@@ -58,7 +50,7 @@ kind_at whole (suc (suc (suc b)) ∷ rest) = Err (faults.BadKind (suc (suc (suc 
 -- a write's timestamp, which begins at place 2
 unfoldable pub stamp_at : ℕ → List ℕ → Result (Timestamp × List ℕ) RecordFault
 stamp_at whole bytes = do
-  sn ← field_at 4 2 (λ sn. nat_lt 0 sn && nat_lt sn STAMP_END) whole bytes
+  sn ← field_at 4 2 (λ sn. nat_lt 0 sn && nat_lt sn SN_END) whole bytes
   cid ← field_at 4 6 (λ cid. nat_lt 0 cid) whole sn.1
   Ok (record { sn = sn.0; cid = cid.0 }, cid.1)
 

@@ -2,11 +2,11 @@
 use Rattle.std.specs.Prelude.{◌≡◌, ◌≢◌, ℕ, ◌^◌, ◌<◌, ◌≤◌, Bool, true, false, not, ◌&&◌, ◌==◌, nat_lt, nat_le, List, [], length, All, IsTrue, Option, Some, None, slice_get, count_ones, if◌then◌else◌}
 use Rattle.std.specs.Str.{bytes_eq}
 use Rattle.sha2.specs.Sha256.{sha256}
+use Rattle.hy_base.specs.Shape.{cloud_count, quorum_size, fragment_size}
 use Rattle.hy_base.specs.declared.limits.TheConstants.{MAX_F, MAX_K, MAX_VALUE}
 use Rattle.hy_record.specs.declared.kind.Kind.{Kind}
 use Rattle.hy_record.specs.declared.kind.Kind.TheVariants.{Tomb, Whole, Coded}
 use Rattle.hy_record.specs.Stamp.{Timestamp, IsStamp, IsWritten}
-use Rattle.hy_record.specs.Shape.{cloud_count, quorum_size, fragment_size}
 use Rattle.hy_record.specs.Hash.{IsHash}
 
 -- when the value was written, and how it lies in the clouds

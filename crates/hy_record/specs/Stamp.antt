@@ -2,19 +2,16 @@
 use Rattle.std.specs.Prelude.{ℕ, ◌+◌, ◌<◌, ◌^◌, Bool, ◌&&◌, ◌||◌, ◌==◌, Option, Some, None, nat_lt, if◌then◌else◌}
 use Rattle.std.specs.declared.cmp.Ordering.{Ordering}
 use Rattle.std.specs.Ordering.{nat_cmp, ordering_then}
+use Rattle.hy_base.specs.declared.limits.TheConstants.{SN_END}
 
 -- a timestamp
 pub record Timestamp : Type 0 where
   pub sn : ℕ
   pub cid : ℕ
 
--- the first sequence number that no timestamp has
-abbrev pub STAMP_END : ℕ
-STAMP_END = 4294967295
-
 -- the timestamp with this sequence number, which has an end
 abbrev pub stamp_of : ℕ → ℕ → Option Timestamp
-stamp_of sn cid = if nat_lt sn STAMP_END then Some (record { sn = sn; cid = cid }) else None
+stamp_of sn cid = if nat_lt sn SN_END then Some (record { sn = sn; cid = cid }) else None
 
 -- the timestamp of a client's write upon a record of this one
 abbrev pub next_stamp : Timestamp → ℕ → Option Timestamp
@@ -34,7 +31,7 @@ stamp_eq a b = a.sn == b.sn && a.cid == b.cid
 
 -- the numbers of a timestamp are in range
 pub record IsStamp (stamp : Timestamp) : Type 0 where
-  pub number : stamp.sn < STAMP_END
+  pub number : stamp.sn < SN_END
   pub client : stamp.cid < 2 ^ 32
 
 -- a timestamp that a write has: neither number is zero

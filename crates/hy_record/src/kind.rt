@@ -5,7 +5,7 @@ ghost use Rattle.std.specs.Bool.{OnTrue};
 ghost use Rattle.hy_record.specs.Record.{is_part_count, hash_count};
 ghost use Rattle.hy_record.specs.Spelling.{kind_byte};
 
-use hy_base::{MAX_F, MAX_K};
+use hy_base::{MAX_F, MAX_K, cloud_count};
 
 /// What a record stands for.
 #[derive(Clone, Copy, Debug, PartialEq, Eq)]
@@ -51,7 +51,7 @@ impl Kind {
         match self {
             Kind::Tomb => 0,
             Kind::Whole => 1,
-            Kind::Coded => 2 * f + k,
+            Kind::Coded => cloud_count(f, k),
         }
     }
 }

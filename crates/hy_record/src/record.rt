@@ -1,16 +1,16 @@
 //! Records: what the metadata service keeps of a key.
 
 ghost use Rattle.std.specs.Prelude.{◌≡◌, ◌≢◌, ◌<◌, ◌≤◌, ◌↔◌, IsTrue, IsSome, IfOk, All, length};
+ghost use Rattle.hy_base.specs.Shape.{IsShape, cloud_count, quorum_size, fragment_size};
 ghost use Rattle.hy_record.specs.Stamp.{IsWritten};
 ghost use Rattle.hy_record.specs.Clouds.{clouds_of};
-ghost use Rattle.hy_record.specs.Shape.{IsShape, cloud_count, quorum_size, fragment_size};
 ghost use Rattle.hy_record.specs.Hash.{IsHash};
 ghost use Rattle.hy_record.specs.Record.{RecordValue, IsRecord, tombstone, kind_of_parts, is_cloud_list, hash_count, hash_of, record_of_value, is_tombstone, is_valid_fragment, IsValidFragment};
 
 use crate::hash::{Hash, sha};
 use crate::kind::Kind;
 use crate::stamp::Stamp;
-use hy_base::{MAX_VALUE, NoMemory};
+use hy_base::{MAX_VALUE, NoMemory, cloud_count, fragment_size};
 use std::alloc::Global;
 use std::marker::Model;
 
@@ -167,8 +167,7 @@ impl Record {
         if self.k == 0 {
             return 0;
         }
-        let parts = u32::from(self.k);
-        (self.size + (parts - 1)) / parts
+        fragment_size(self.size, self.k)
     }
 
     /// The hash of what this cloud holds.
@@ -176,7 +175,7 @@ impl Record {
         ensures value { result ≡ hash_of self.now i }
         ensures found { IsSome result ↔ (self.now.kind ≢ Kind.Tomb) × (i < cloud_count self.now.f self.now.k) }
     {
-        if i >= 2 * self.f + self.k {
+        if i >= cloud_count(self.f, self.k) {
             return None;
         }
         match self.kind {

@@ -3,6 +3,7 @@
 ghost use Rattle.std.specs.Prelude.{◌≡◌};
 ghost use Rattle.hy_record.specs.Stamp.{stamp_of, next_stamp, stamp_lt, stamp_eq, IsStamp};
 
+use hy_base::SN_END;
 use std::marker::Model;
 
 /// A timestamp: a sequence number, and the client that wrote, which breaks ties.
@@ -16,13 +17,14 @@ pub struct Stamp {
 
 impl Model for Stamp {
     ghost use Rattle.std.specs.Prelude.{◌<◌};
+    ghost use Rattle.hy_base.specs.declared.limits.TheConstants.{SN_END};
     ghost use Rattle.hy_record.specs.Stamp.{Timestamp};
 
     ghost Value = { Timestamp };
 
     ghost view = { λ stamp. record { sn = stamp.sn; cid = stamp.cid } };
 
-    ghost invariant = { λ stamp. stamp.sn < 4294967295 };
+    ghost invariant = { λ stamp. stamp.sn < SN_END };
 
     ghost inverse = { λ value. record { sn = value.sn; cid = value.cid } };
 }
@@ -32,7 +34,7 @@ impl Stamp {
     pub fn new(sn: u32, cid: u32) -> Option<Stamp>
         ensures { result ≡ stamp_of sn cid }
     {
-        if sn == u32::MAX {
+        if sn >= SN_END {
             return None;
         }
         Some(Stamp { sn, cid })
@@ -47,15 +49,19 @@ impl Stamp {
 
     /// The sequence number, at most 4,294,967,294.
     pub fn sn(self) -> u32
-        ensures { result ≡ self.sn }
+        ensures value { result ≡ self.sn }
+        ensures range { IsStamp self }
     {
+        let _client = self.cid;
         self.sn
     }
 
     /// The client that wrote.
     pub fn cid(self) -> u32
-        ensures { result ≡ self.cid }
+        ensures value { result ≡ self.cid }
+        ensures range { IsStamp self }
     {
+        let _number = self.sn;
         self.cid
     }
 

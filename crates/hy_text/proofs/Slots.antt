@@ -6,19 +6,7 @@ use Rattle.hy_base.specs.declared.fault.Cause.{Cause}
 use Rattle.hy_base.specs.declared.fault.Cause.TheVariants.{BadWord}
 use Rattle.hy_text.specs.Gives.{at_line}
 use Rattle.hy_text.specs.Line.{first_word, later_words}
-use Rattle.hy_text.specs.Slot.{◌>>=◌, keyword, end_of, end_of_line}
-
--- the value of the first reader, where both answered one
-pub bind_ok : {A B E : Type 0} (read : Result A E) (next : A → Result B E) (y : B) → (read >>= next) ≡ Ok y → (x : A) × (read ≡ Ok x) × (next x ≡ Ok y)
-bind_ok (Ok x) next y e = (x, refl, e)
-bind_ok (Err fault) next y e = absurd cc
-
-abbrev answer : {A E : Type 0} → A → Result A E
-answer x = Ok x
-
--- two answers that are the same have the same value
-pub ok_is : {A E : Type 0} (x y : A) → answer {E = E} x ≡ answer y → x ≡ y
-ok_is x y e = cc
+use Rattle.hy_text.specs.Slot.{keyword, end_of, end_of_line}
 
 abbrev due_or_bad : Bool → Result (Unit {0}) Cause
 due_or_bad t = cond t (Ok tt) (Err BadWord)

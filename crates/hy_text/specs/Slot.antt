@@ -10,12 +10,6 @@ use Rattle.hy_base.specs.declared.fault.Cause.{Cause}
 use Rattle.hy_record.specs.Key.{is_key}
 use Rattle.hy_base.specs.declared.fault.Cause.TheVariants.{BadWord, BadNumber, BadHex, BadKey, LongValue, Extra, NoLineEnd}
 
--- the next reader, where this one answered a value; else the fault of this one
-infixl 10 ◌>>=◌
-abbrev pub ◌>>=◌ : {A B E : Type 0} → Result A E → (A → Result B E) → Result B E
-(Ok x) >>= f = f x
-(Err e) >>= f = Err e
-
 -- the slot of a keyword
 abbrev pub keyword : List ℕ → List ℕ → Result (Unit {0}) Cause
 keyword due word = if bytes_eq word due then Ok tt else Err BadWord

@@ -1,5 +1,5 @@
 -- What reading an input up to its limit answers.
-use Rattle.std.proofs.Common.{ℕ, ◌<◌, ◌≤◌, List, length, Option, Result, Ok, Err, refl, arith}
+use Rattle.std.proofs.Common.{◌≡◌, ℕ, ◌<◌, ◌≤◌, List, length, Option, Result, Ok, Err, refl, arith}
 use Rattle.std.specs.Prelude.{IsErrOf}
 use Rattle.hy_base.specs.Faults.{Rose}
 use Rattle.hy_base.specs.Source.{Reading}
@@ -17,17 +17,19 @@ within_limit : (old new : Option (List ℕ)) (result : Result (List ℕ) ReadAll
 within_limit old new result reading other = not_longer MAX_INPUT (length reading.taken) (λ over. other (reading.too_long.1 over))
 
 pub IsInput-reading : (input : InputUse) (result : Result (List ℕ) ReadAllFault) → Reading input.left_before input.left_after MAX_INPUT result
-    → (IsErrOf result ReadFault → Rose input.faults_before input.faults_after) → IsInput input result
-IsInput-reading input (Ok text) reading rose = record {
+    → (IsErrOf result ReadFault → Rose input.faults_before input.faults_after) → (¬ IsErrOf result ReadFault → input.faults_after ≡ input.faults_before)
+    → IsInput input result
+IsInput-reading input (Ok text) reading rose kept = record {
   takes = rw (reading.whole.0) (reading.takes);
   ended = reading.whole.1;
   within = rw (reading.whole.0) (within_limit input.left_before input.left_after (Ok text) reading (λ is. cc));
+  unfailed = kept (λ is. cc);
 }
-IsInput-reading input (Err ReadFault) reading rose = record {
+IsInput-reading input (Err ReadFault) reading rose kept = record {
   rose = rose refl;
   taken = reading.taken;
   takes = reading.takes;
   within = within_limit input.left_before input.left_after (Err ReadFault) reading (λ is. cc);
 }
-IsInput-reading input (Err TooLong) reading rose = record { taken = reading.taken; takes = reading.takes; beyond = reading.too_long.0 refl }
-IsInput-reading input (Err NoMemory) reading rose = tt
+IsInput-reading input (Err TooLong) reading rose kept = record { taken = reading.taken; takes = reading.takes; beyond = reading.too_long.0 refl; unfailed = kept (λ is. cc) }
+IsInput-reading input (Err NoMemory) reading rose kept = tt

@@ -1,7 +1,8 @@
 -- What each status of a call says of the words, the input and the output.
 use Rattle.std.specs.Prelude.{◌≡◌, ℕ, List, []}
+use Rattle.std.specs.Io.KnownBytes.{Appends}
 use Rattle.hy_base.specs.Faults.{Rose}
-use Rattle.hy_base.specs.Sink.{Appends, AppendsFront}
+use Rattle.hy_base.specs.Sink.{AppendsFront}
 use Rattle.hy_top.specs.Call.{InputUse, OutputUse}
 use Rattle.hy_top.specs.Outcome.{ComesTo, text_due, status_due}
 use Rattle.hy_top.specs.declared.status.Status.{Status}
@@ -9,18 +10,20 @@ use Rattle.hy_top.specs.declared.status.Status.TheVariants.{Done, BadInput, BadW
 use Rattle.hy_top.specs.declared.outcome.Outcome.{Outcome}
 use Rattle.hy_top.specs.declared.outcome.Outcome.TheVariants as outcome
 
--- the text of the outcome was written
-abbrev pub IsWritten : Outcome → OutputUse → Type 0
-IsWritten what output = Appends output.written_before output.written_after (text_due what)
+-- the text of the outcome was written, and no write failed
+pub record IsWritten (what : Outcome) (output : OutputUse) : Type 0 where
+  pub unfailed : output.faults_after ≡ output.faults_before
+  pub whole : Appends output.written_before output.written_after (text_due what)
 
 -- a write failed, and a front of the text of the outcome was written
 pub record IsBrokenOff (what : Outcome) (output : OutputUse) : Type 0 where
   pub rose : Rose output.faults_before output.faults_after
   pub front : AppendsFront output.written_before output.written_after (text_due what)
 
--- want of memory: nothing was written
-abbrev pub IsUnwritten : OutputUse → Type 0
-IsUnwritten output = Appends output.written_before output.written_after []
+-- want of memory: nothing was written, and no write failed
+pub record IsUnwritten (output : OutputUse) : Type 0 where
+  pub unfailed : output.faults_after ≡ output.faults_before
+  pub nothing : Appends output.written_before output.written_after []
 
 -- how the status tells an outcome
 abbrev pub IsTold : Outcome → OutputUse → Status → Type 0

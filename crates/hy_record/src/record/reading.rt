@@ -14,7 +14,7 @@ use crate::hash::Hash;
 use crate::kind::Kind;
 use crate::stamp::Stamp;
 use byteorder::{BigEndian, ByteOrder};
-use hy_base::{MAX_F, MAX_K, MAX_VALUE};
+use hy_base::{MAX_F, MAX_K, MAX_VALUE, SN_END, cloud_count, quorum_size};
 use std::alloc::Global;
 
 impl Record {
@@ -115,7 +115,7 @@ fn stamp_of(whole: usize, bytes: &[u8]) -> Result<(Stamp, &[u8]), RecordFault>
     ensures written { IfOk result (λ x. IsWritten x.0) }
 {
     let (sn, rest) = u32_at(whole, bytes)?;
-    if sn == 0 || sn == u32::MAX {
+    if sn == 0 || sn >= SN_END {
         return Err(RecordFault::BadShape(2));
     }
     let (cid, rest) = u32_at(whole, rest)?;
@@ -160,7 +160,8 @@ fn lists_quorum(f: u8, k: u8, clouds: u16) -> bool
     requires parts { k ≤ MAX_K }
     ensures { result ≡ is_cloud_list f k clouds }
 {
-    u32::from(clouds) < 1 << (2 * f + k) && clouds.count_ones() == u32::from(f + k)
+    u32::from(clouds) < 1 << cloud_count(f, k)
+        && clouds.count_ones() == u32::from(quorum_size(f, k))
 }
 
 /// The bytes of a hash, and those behind it.

@@ -1,21 +1,22 @@
 use Rattle.std.proofs.Common.{◌≡◌, ◌∙◌, ◌<◌, ◌++◌, length, take, arith, length-append, length-take}
 use Rattle.std.proofs.lemmas.Result.{err_from_is_err_and}
 use Rattle.std.proofs.lemmas.List.{take_at}
-use Rattle.hy_base.proofs.Taking.{Takes-trans, Takes-kept, Reading-stopped, Reading-over, Reading-ended, Reading-told}
+use Rattle.std.proofs.KnownBytes.{Consumes-trans, Consumes-kept}
+use Rattle.hy_base.proofs.Taking.{Consumes-none, Reading-stopped, Reading-over, Reading-ended, Reading-told}
 use Rattle.hy_base.proofs.reading.read_all.Goals as goal
 
 pub returns-in_err-count-clause-taken : goal.returns-in_err-count-clause-taken
 returns-in_err-count-clause-taken g c =
     let fault = err_from_is_err_and c.from_residual-in_err-count.result c.from_residual-in_err-count.ensures.1 in
     rw (fault.1, fault.2)
-    (Reading-stopped _ _ c.args.limit _ _ (λ is. cc) (Takes-kept _ _ _ _ c.loop-bytes.invariant.taken c.in_err-count.ensures.takes) c.loop-bytes.invariant.within)
+    (Reading-stopped _ _ c.args.limit _ _ (λ is. cc) (Consumes-kept _ _ _ _ c.loop-bytes.invariant.taken c.in_err-count.ensures.takes) c.loop-bytes.invariant.within)
 
 pub returns-then-count-eq0-clause-taken : goal.returns-then-count-eq0-clause-taken
 returns-then-count-eq0-clause-taken g c =
     let none = rw c.if-count-eq0.true at c.in_ok-count.ensures.takes.0 in
     let room : 0 < length c.read.new.buf = omega (arith, c.loop-bytes.invariant.room, c.read.auto.buf, c.deref_mut.ensures.len) in
     rw c.of.ensures
-    (Reading-ended _ _ c.args.limit _ (Takes-kept _ _ _ _ c.loop-bytes.invariant.taken none) c.loop-bytes.invariant.within
+    (Reading-ended _ _ c.args.limit _ (Consumes-none _ _ _ _ c.loop-bytes.invariant.taken none) c.loop-bytes.invariant.within
     (c.in_ok-count.ensures.takes.1 c.if-count-eq0.true room))
 
 pub returns-then-count-eq0-clause-told : goal.returns-then-count-eq0-clause-told
@@ -23,7 +24,7 @@ returns-then-count-eq0-clause-told g c = Reading-told _ _ c.args.limit _ (return
 
 pub returns-then-count-limit-clause-taken : goal.returns-then-count-limit-clause-taken
 returns-then-count-limit-clause-taken g c =
-    Reading-over _ _ c.args.limit _ (Takes-trans _ _ _ _ _ c.loop-bytes.invariant.taken c.in_ok-count.ensures.takes.0)
+    Reading-over _ _ c.args.limit _ (Consumes-trans _ _ _ _ _ c.loop-bytes.invariant.taken c.in_ok-count.ensures.takes.0)
     (omega (
       arith,
       length-append c.loop-bytes.bytes.items (take c.in_ok-count.count c.read.new.buf),
@@ -49,15 +50,15 @@ loop-bytes-preserved g c =
         length-take c.in_ok-count.count c.read.new.buf,
         c.loop-bytes.bytes.ok.0,
       ));
-      taken = rw grown (Takes-trans _ _ _ _ _ c.loop-bytes.invariant.taken c.in_ok-count.ensures.takes.0);
-      stays = omega (arith, c.in_ok-count.ensures.cause.stays, c.loop-bytes.invariant.stays);
+      taken = rw grown (Consumes-trans _ _ _ _ _ c.loop-bytes.invariant.taken c.in_ok-count.ensures.takes.0);
+      kept = c.in_ok-count.ensures.cause.kept ∙ c.loop-bytes.invariant.kept;
     }
 
 pub returns-in_err-extend_from_slice-clause-taken : goal.returns-in_err-extend_from_slice-clause-taken
 returns-in_err-extend_from_slice-clause-taken g c =
     let fault = err_from_is_err_and c.from_residual-in_err-extend_from_slice.result c.from_residual-in_err-extend_from_slice.ensures.1 in
     rw (fault.1, fault.2)
-    (Reading-stopped _ _ c.args.limit _ _ (λ is. cc) (Takes-trans _ _ _ _ _ c.loop-bytes.invariant.taken c.in_ok-count.ensures.takes.0)
+    (Reading-stopped _ _ c.args.limit _ _ (λ is. cc) (Consumes-trans _ _ _ _ _ c.loop-bytes.invariant.taken c.in_ok-count.ensures.takes.0)
     (omega (
       arith,
       length-append c.loop-bytes.bytes.items (take c.in_ok-count.count c.read.new.buf),

@@ -6,7 +6,7 @@ use Rattle.hy_code.proofs.rebuilding.parts_joined.Goals as goal
 
 pub loop-part-preserved : goal.loop-part-preserved
 loop-part-preserved c =
-    joined (row_at c.part_size-part_size.result c.args.picks.now) c.loop-part.part c.loop-part.value.items c.extend_from_slice.new.self.items c.deref.result.now
+    joined (row_at c.fragment_size-fragment_size.result c.args.picks.now) c.loop-part.part c.loop-part.value.items c.extend_from_slice.new.self.items c.deref.result.now
     c.loop-part.invariant c.in_ok-extend_from_slice.ensures.items (c.deref.ensures.value ∙ c.in_ok-bytes.ensures)
 
 same : (a b : ℕ) → a ≤ b → b ≤ a → a ≡ b
@@ -18,5 +18,5 @@ returns c =
     c.truncate.ensures.items
     ∙ ap (take c.args.size)
     (c.loop-part.invariant
-    ∙ ap (λ n. flat_map (row_at c.part_size-part_size.result c.args.picks.now) (range_with_len 0 n)) (same c.loop-part.part c.args.k c.loop-part.auto.part-end c.loop-part-test.false)
-    ∙ ap (λ size. flat_map (row_at size c.args.picks.now) (range_with_len 0 c.args.k)) c.part_size-part_size.ensures)
+    ∙ ap (λ n. flat_map (row_at c.fragment_size-fragment_size.result c.args.picks.now) (range_with_len 0 n)) (same c.loop-part.part c.args.k c.loop-part.auto.part-end c.loop-part-test.false)
+    ∙ ap (λ size. flat_map (row_at size c.args.picks.now) (range_with_len 0 c.args.k)) c.fragment_size-fragment_size.ensures)

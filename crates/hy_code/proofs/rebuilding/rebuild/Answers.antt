@@ -8,8 +8,8 @@ pub parts_joined-requires-clause-sizes : goal.parts_joined-requires-clause-sizes
 parts_joined-requires-clause-sizes c =
     let used = take c.args.k c.deref.result.now in
     let S : ℕ → Type 0 = λ size. AreSized size used in
-    let sized = sized_from_none c.part_size-part_size.result 0 used (sym c.wrong_length.ensures ∙ c.in_default.is) in
-    AreSized-each _ used (subst S c.part_size-part_size.ensures sized)
+    let sized = sized_from_none c.fragment_size-fragment_size.result 0 used (sym c.wrong_length.ensures ∙ c.in_default.is) in
+    AreSized-each _ used (subst S c.fragment_size-fragment_size.ensures sized)
 
 pub parts_joined-requires-clause-different : goal.parts_joined-requires-clause-different
 parts_joined-requires-clause-different c =

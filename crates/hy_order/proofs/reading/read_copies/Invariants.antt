@@ -1,7 +1,7 @@
 -- The copies so far, and those of the lines that are left, are those of all lines.
 use Rattle.std.proofs.Common.{◌≡◌, length, None}
 use Rattle.hy_order.specs.ReportReading.{items_from, held_lines}
-use Rattle.hy_order.proofs.Fronts.{with_items}
+use Rattle.hy_base.proofs.Results.{with_items}
 use Rattle.hy_order.proofs.reading.read_copies.Given as goal
 
 abbrev pub invariant-loop-line : goal.invariant-loop-line

@@ -2,7 +2,7 @@
 use Rattle.std.proofs.Common.{◌≡◌, ◌≤◌, length}
 use Rattle.hy_order.specs.declared.report.TheConstants.{LAST_STEP}
 use Rattle.hy_order.specs.ReportReading.{items_from, operation_lines}
-use Rattle.hy_order.proofs.Fronts.{with_items}
+use Rattle.hy_base.proofs.Results.{with_items}
 use Rattle.hy_order.proofs.reading.read_history.Given as goal
 
 abbrev pub invariant-loop-line : goal.invariant-loop-line

@@ -1,7 +1,7 @@
 -- The orders so far, and those of the lines that are left, are those of all lines.
 use Rattle.std.proofs.Common.{◌≡◌, drop}
 use Rattle.hy_order.specs.ReportReading.{items_from, order_lines}
-use Rattle.hy_order.proofs.Fronts.{with_items}
+use Rattle.hy_base.proofs.Results.{with_items}
 use Rattle.hy_order.proofs.reading.read_orders.Given as goal
 
 abbrev pub invariant-loop-key : goal.invariant-loop-key

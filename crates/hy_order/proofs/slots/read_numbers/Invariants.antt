@@ -1,7 +1,7 @@
 -- The numbers so far, and those of the words that are left, are those of all words.
 use Rattle.std.proofs.Common.{◌≡◌, length}
 use Rattle.hy_order.specs.WordReaders.{numbers_of}
-use Rattle.hy_order.proofs.Fronts.{with_front}
+use Rattle.hy_base.proofs.Results.{with_front}
 use Rattle.hy_order.proofs.slots.read_numbers.Given as goal
 
 abbrev pub invariant-loop-words : goal.invariant-loop-words

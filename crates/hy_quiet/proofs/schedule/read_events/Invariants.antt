@@ -2,7 +2,7 @@
 use Rattle.std.proofs.Common.{◌≡◌, ◌≤◌, length}
 use Rattle.hy_base.specs.declared.limits.TheConstants.{MAX_EVENTS, MAX_SESSIONS}
 use Rattle.hy_quiet.specs.Schedule.{events_from}
-use Rattle.hy_quiet.proofs.ScheduleLoop.{with_front}
+use Rattle.hy_base.proofs.Results.{with_front}
 use Rattle.hy_quiet.proofs.schedule.read_events.Given as goal
 
 abbrev pub invariant-loop-line : goal.invariant-loop-line

@@ -1,5 +1,6 @@
 -- The shape of a store: how many faulty clouds it bears, and into how many parts a value is cut.
-use Rattle.std.specs.Prelude.{ℕ, ◌+◌, ◌-◌, ◌*◌, ◌/◌, ◌≤◌}
+use Rattle.std.specs.Prelude.{ℕ, ◌+◌, ◌*◌, ◌≤◌}
+use Rattle.std.specs.Int.{div_ceil}
 use Rattle.hy_base.specs.declared.limits.TheConstants.{MAX_F, MAX_K}
 
 -- a store can have so many faulty clouds and parts
@@ -18,4 +19,4 @@ quorum_size f k = f + k
 
 -- the bytes of a part, and so of a fragment: the size over the parts, rounded up
 abbrev pub fragment_size : ℕ → ℕ → ℕ
-fragment_size size k = (size + (k - 1)) / k
+fragment_size size k = div_ceil size k

@@ -1,0 +1,9 @@
+pub mod Acknowledged
+pub mod ByContent
+pub mod ByState
+pub mod Fragments
+pub mod Further
+pub mod Outcomes
+pub mod Turns
+pub mod Told
+pub mod Updates

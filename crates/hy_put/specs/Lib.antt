@@ -1,0 +1,4 @@
+pub mod Contents
+pub mod Sizes
+pub mod Standing
+pub mod Updates
