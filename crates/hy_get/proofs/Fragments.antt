@@ -5,7 +5,6 @@ use Rattle.std.specs.Option.{option_or}
 use Rattle.std.specs.List.{list_any, prefix_len}
 use Rattle.std.proofs.lemmas.Bool.{eqb-true, eqb-false, ltb-true, false≢true}
 use Rattle.std.proofs.lemmas.Bool.Decides.{nat_tests}
-use Rattle.hy_base.specs.declared.limits.TheConstants.{MAX_VALUE}
 use Rattle.hy_meta.proofs.Rising.{cases_bool}
 use Rattle.hy_code.specs.declared.pick.Pick.{Pick}
 use Rattle.hy_record.specs.declared.cloud.CloudReply.{CloudReply}
