@@ -77,10 +77,10 @@ bit-inside : (p : ℕ → Bool) (n i : ℕ) → i < n → (bit_at (set_of (filte
 bit-inside p n i within =
     let at_it : slice_index_or (map p (range_with_len 0 n)) i false ≡ p i = get_or-map-range_with_len p 0 n i i false within (zero-add i) in
     told (p i) (ap (λ (s : ℕ). bit_at s i) (set-is p n) ∙ bit_mask_l (map p (range_with_len 0 n)) i ∙ ap (λ (b : Bool). cond b 1 0) at_it)
-    where
-      told : (b : Bool) → bit_at (set_of (filter p (range_with_len 0 n))) i ≡ cond b 1 0 → (bit_at (set_of (filter p (range_with_len 0 n))) i == 1) ≡ b
-      told true is = eq-eqb (bit_at (set_of (filter p (range_with_len 0 n))) i) 1 is
-      told false is = ne_eqb (bit_at (set_of (filter p (range_with_len 0 n))) i) 1 (λ e. omega (arith, is, e))
+  where
+    told : (b : Bool) → bit_at (set_of (filter p (range_with_len 0 n))) i ≡ cond b 1 0 → (bit_at (set_of (filter p (range_with_len 0 n))) i == 1) ≡ b
+    told true is = eq-eqb (bit_at (set_of (filter p (range_with_len 0 n))) i) 1 is
+    told false is = ne_eqb (bit_at (set_of (filter p (range_with_len 0 n))) i) 1 (λ e. omega (arith, is, e))
 
 bit-outside : (p : ℕ → Bool) (n i : ℕ) → n ≤ i → (bit_at (set_of (filter p (range_with_len 0 n))) i == 1) ≡ false
 bit-outside p n i above =

@@ -30,7 +30,6 @@ use Rattle.hy_theorems.proofs.Told.{value-not}
 use Rattle.hy_theorems.proofs.Masks.{clouds-of-set, more-pass, enough-honest, clouds-within}
 use Rattle.hy_theorems.proofs.Retrievable.{retrievable}
 
-
 and-true : (a b c d : Bool) → a ≡ true → b ≡ true → c ≡ true → d ≡ true → (a && b && c && d) ≡ true
 and-true a b c d one two three four = rw (one, two, three, four) refl
 
