@@ -12,7 +12,7 @@ use Rattle.hy_meta.specs.Service.{has_stamp}
 use Rattle.hy_meta.specs.Watches.{StandsFor, service_answers}
 use Rattle.hy_meta.specs.Rows.{record_in, olds_in}
 
--- the rows and the waiting watches are those behind these requests
+-- the rows and the waiting watches are those after these requests
 abbrev pub Serves : List Row → List Watcher → List MetaAsk → Type 0
 Serves rows watches served = StandsFor (λ key. record_in rows key) (λ key stamp. has_stamp (olds_in rows key) stamp) watches served
 
@@ -20,7 +20,7 @@ Serves rows watches served = StandsFor (λ key. record_in rows key) (λ key stam
 unfoldable pub is_due : List ℕ → Timestamp → Watcher → Bool
 is_due key stamp w = key_eq w.key key && stamp_lt w.stamp stamp
 
--- what was answered is what the definition gives, behind any requests that the service stands for
+-- what was answered is what the definition gives, after any requests that the service stands for
 abbrev pub Says : (List MetaAsk → Type 0) → MetaAsk → Result (Vec MetaSay) NoMemory → Type 0
 Says served ask result = IfOk result (λ sent. (before : List MetaAsk) → served before → sent.items ≡ service_answers before ask)
 

@@ -35,7 +35,7 @@ is_waiting served w = not (stamp_lt w.stamp (record_stamp served w.key))
 abbrev pub fired : Watcher → MetaSay
 fired w = says.Fired w.client w.op w.key w.stamp
 
--- what the service answers to a request, behind those that it served
+-- what the service answers to a request, after those that it served
 unfoldable pub service_answers : List MetaAsk → MetaAsk → List MetaSay
 service_answers before (asks.Read client op key) = says.Has client op key (record_after before key) ∷ []
 service_answers before (asks.Update client op key r) =
@@ -45,7 +45,7 @@ service_answers before (asks.Watch client op key stamp) = if stamp_lt stamp (rec
 service_answers before (asks.Olds client op key) = says.OldList client op key (old_list before key) ∷ []
 service_answers before (asks.Forget client op key stamps) = says.Forgot client op key ∷ []
 
--- the parts of a service, each seen as a function of what it is asked for, are those behind these requests
+-- the parts of a service, each seen as a function of what it is asked for, are those after these requests
 pub record StandsFor (record_at : List ℕ → Option RecordValue) (lists : List ℕ → Timestamp → Bool) (waiting : List Watcher) (served : List MetaAsk) : Type 0 where
   pub records : (key : List ℕ) → record_at key ≡ record_after served key
   pub olds : (key : List ℕ) (stamp : Timestamp) → lists key stamp ≡ is_old served key stamp

@@ -1,5 +1,4 @@
 mod Keys
-pub mod Hashes
 pub mod Numbers
 pub mod Fields
 pub mod Records

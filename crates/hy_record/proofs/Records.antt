@@ -1,12 +1,12 @@
 -- What is read is spelled so, and what is spelled so is read.
-use Rattle.std.proofs.Common.{◌≡◌, ℕ, zero, suc, ◌+◌, ◌-◌, ◌*◌, ◌^◌, ◌<◌, ◌≤◌, Bool, true, false, cond, ltb, eqb, List, [], ◌∷◌, ◌++◌, length, take, drop, All, Result, Ok, Err, refl, sym, ap, subst, ◌∙◌, append_assoc, arith}
+use Rattle.std.proofs.Common.{◌≡◌, ℕ, zero, suc, ◌+◌, ◌-◌, ◌*◌, ◌^◌, ◌<◌, ◌≤◌, Bool, true, false, cond, ltb, eqb, List, [], ◌∷◌, ◌++◌, length, take, drop, All, Result, Ok, Err, refl, sym, ap, subst, ◌∙◌, append_assoc, arith, inl, inr}
 use Rattle.std.specs.Prelude.{IsTrue, IfOk, ◌&&◌, nat_lt, nat_le}
 use Rattle.std.specs.List.{concat}
 use Rattle.std.specs.Int.Count.{ones}
 use Rattle.std.proofs.Math.Nat.{pow-le-pow_right}
-use Rattle.std.proofs.lemmas.Bool.{ltb-false, le-ltb, eqb-true}
+use Rattle.std.proofs.lemmas.Bool.{ltb-false, le-ltb, lt-ltb, eqb-true, eq-eqb, ne_eqb, cases_lt}
 use Rattle.std.proofs.lemmas.Bool.Decides.{nat_tests}
-use Rattle.std.proofs.lemmas.List.{append-nil, nil_from_length, take_at, drop_at, take-append-drop, length-append, length-take}
+use Rattle.std.proofs.lemmas.List.{append-nil, nil_from_length, take_at, drop_at, take-append-drop, length-append, length-take, length-drop}
 use Rattle.std.proofs.lemmas.List.Elements.{All-nil, All-cons, All-head, All-tail}
 use Rattle.byteorder.specs.Endian.{big_bytes}
 use Rattle.hy_base.specs.declared.limits.TheConstants.{MAX_F, MAX_K, MAX_VALUE, SN_END}
@@ -15,13 +15,14 @@ use Rattle.hy_record.specs.declared.kind.Kind.TheVariants.{Tomb, Whole, Coded}
 use Rattle.hy_record.specs.declared.record.fault.RecordFault.{RecordFault}
 use Rattle.hy_record.specs.declared.record.fault.RecordFault.TheVariants as faults
 use Rattle.hy_record.specs.declared.record.reading.Layout.{Layout}
+use Rattle.hy_record.specs.declared.record.reading.Fields.{Fields}
 use Rattle.hy_record.specs.Stamp.{Timestamp, IsStamp, IsWritten}
 use Rattle.hy_record.specs.Hash.{HASH_SIZE, IsHash}
 use Rattle.hy_record.specs.Record.{RecordValue, IsRecord, most_bytes, most_faults, is_part_count, is_cloud_list, hash_count, tombstone}
 use Rattle.hy_record.specs.Spelling.{stamp_bytes, layout_bytes, kind_byte, value_bytes, record_bytes, SpellsKind, SpellsRecord}
 use Rattle.hy_base.specs.Results.{◌>>=◌}
 use Rattle.hy_base.proofs.Results.{bind_ok, ok_is}
-use Rattle.hy_record.specs.Reading.{Gives, IsLayout, field_at, stamp_at, layout_at, hash_at, hashes_at, value_at, body_at, version_at, kind_at, record_at, record_of}
+use Rattle.hy_record.specs.Reading.{fault_of, Gives, IsValueLayout, IsLayout, no_layout, field_at, stamp_at, value_layout_at, layout_at, hash_at, hashes_at, hashes_due, record_with, ended_at, version_at, kind_at, fields_at, record_of}
 use Rattle.hy_record.proofs.Numbers.{IsBytes, IsBytes-drop}
 use Rattle.hy_record.proofs.Fields.{guard_false, guard_true, Takes, Takes-then, field_takes, field_again}
 
@@ -78,9 +79,9 @@ few_parts Coded k e = grind (arith, nat_tests)
 abbrev text_of : Layout → List ℕ
 text_of l = layout_bytes l.size l.f l.k l.clouds
 
-layout_takes : (kind : Kind) (whole : ℕ) (bytes : List ℕ) (x : Layout × List ℕ) → IsBytes bytes → layout_at kind whole bytes ≡ Ok x → Takes bytes (text_of x.0) x.1 × IsLayout kind x.0
-unfolding layout_at
-layout_takes kind whole bytes x fits e =
+value_layout_takes : (kind : Kind) (whole : ℕ) (bytes : List ℕ) (x : Layout × List ℕ) → IsBytes bytes → value_layout_at kind whole bytes ≡ Ok x → Takes bytes (text_of x.0) x.1 × IsValueLayout kind x.0
+unfolding value_layout_at
+value_layout_takes kind whole bytes x fits e =
     let a = bind_ok (field_at 4 10 is_size whole bytes) (λ size. field_at 1 14 is_fault_count whole size.1 >>= λ f. field_at 1 15 (λ k. is_part_count kind k) whole f.1 >>= λ k. field_at 2 16 (λ clouds. is_cloud_list f.0 k.0 clouds) whole k.1 >>= λ clouds. Ok (record { size = size.0; f = f.0; k = k.0; clouds = clouds.0 }, clouds.1)) x e in
     let b = bind_ok (field_at 1 14 is_fault_count whole a.0.1) (λ f. field_at 1 15 (λ k. is_part_count kind k) whole f.1 >>= λ k. field_at 2 16 (λ clouds. is_cloud_list f.0 k.0 clouds) whole k.1 >>= λ clouds. Ok (record { size = a.0.0; f = f.0; k = k.0; clouds = clouds.0 }, clouds.1)) x a.2 in
     let c = bind_ok (field_at 1 15 (λ k. is_part_count kind k) whole b.0.1) (λ k. field_at 2 16 (λ clouds. is_cloud_list b.0.0 k.0 clouds) whole k.1 >>= λ clouds. Ok (record { size = a.0.0; f = b.0.0; k = k.0; clouds = clouds.0 }, clouds.1)) x b.2 in
@@ -95,7 +96,7 @@ layout_takes kind whole bytes x fits e =
     let sized : a.0.0 ≤ MAX_VALUE = let test = ta.2 in grind (arith, nat_tests) in
     let faulty : b.0.0 ≤ MAX_F = let test = tb.2 in grind (arith, nat_tests) in
     let made : Layout × List ℕ = (record { size = a.0.0; f = b.0.0; k = c.0.0; clouds = d.0.0 }, d.0.1) in
-    subst (λ (y : Layout × List ℕ). Takes bytes (text_of y.0) y.1 × IsLayout kind y.0) {x = made} (ok_is made x d.2)
+    subst (λ (y : Layout × List ℕ). Takes bytes (text_of y.0) y.1 × IsValueLayout kind y.0) {x = made} (ok_is made x d.2)
     (abcd, record { size = sized; faults = faulty; parts = tc.2; few = few_parts kind c.0.0 tc.2; clouds = td.2 })
 
 cloud_test : (f k clouds : ℕ) → is_cloud_list f k clouds ≡ true → clouds < 2 ^ (2 * f + k)
@@ -107,9 +108,9 @@ few_clouds f k clouds faults parts e =
     let most : 2 ^ (2 * f + k) ≤ 2 ^ 10 = pow-le-pow_right {n = 2} (omega arith) {i = 2 * f + k} {j = 10} (omega arith) in
     omega arith
 
-layout_again : (kind : Kind) (whole : ℕ) (l : Layout) (rest : List ℕ) → IsLayout kind l → layout_at kind whole (text_of l ++ rest) ≡ Ok (l, rest)
-unfolding layout_at
-layout_again kind whole l rest ruled =
+value_layout_again : (kind : Kind) (whole : ℕ) (l : Layout) (rest : List ℕ) → IsValueLayout kind l → value_layout_at kind whole (text_of l ++ rest) ≡ Ok (l, rest)
+unfolding value_layout_at
+value_layout_again kind whole l rest ruled =
     let b4 = big_bytes 4 l.size in
     let b1 = big_bytes 1 l.f in
     let c1 = big_bytes 1 l.k in
@@ -121,7 +122,32 @@ layout_again kind whole l rest ruled =
     let second = field_again 1 14 is_fault_count whole l.f (c1 ++ (b2 ++ rest)) (omega (arith, ruled.faults)) faulty in
     let third = field_again 1 15 (λ k. is_part_count kind k) whole l.k (b2 ++ rest) (omega (arith, ruled.few)) ruled.parts in
     let fourth = field_again 2 16 (λ clouds. is_cloud_list l.f l.k clouds) whole l.clouds rest (few_clouds l.f l.k l.clouds ruled.faults ruled.few ruled.clouds) ruled.clouds in
-    ap (layout_at kind whole) regrouped ∙ rw (first, second, third, fourth) refl
+    ap (value_layout_at kind whole) regrouped ∙ rw (first, second, third, fourth) refl
+
+-- the bytes of what this kind stands for
+abbrev layout_text : Kind → Layout → List ℕ
+layout_text Tomb l = []
+layout_text Whole l = text_of l
+layout_text Coded l = text_of l
+
+layout_takes : (kind : Kind) (whole : ℕ) (bytes : List ℕ) (x : Layout × List ℕ) → IsBytes bytes → layout_at kind whole bytes ≡ Ok x → Takes bytes (layout_text kind x.0) x.1 × IsLayout kind x.0
+unfolding layout_at
+layout_takes Tomb whole bytes x fits e =
+    subst (λ (y : Layout × List ℕ). Takes bytes [] y.1 × (y.0 ≡ no_layout)) (ok_is (no_layout, bytes) x e) (record { parts = refl; rest_fits = fits }, refl)
+layout_takes Whole whole bytes x fits e = value_layout_takes Whole whole bytes x fits e
+layout_takes Coded whole bytes x fits e = value_layout_takes Coded whole bytes x fits e
+
+layout_again : (kind : Kind) (whole : ℕ) (l : Layout) (rest : List ℕ) → IsLayout kind l → layout_at kind whole (layout_text kind l ++ rest) ≡ Ok (l, rest)
+unfolding layout_at
+layout_again Tomb whole l rest is = ap (λ (x : Layout). Ok (x, rest)) (sym is)
+layout_again Whole whole l rest ruled = value_layout_again Whole whole l rest ruled
+layout_again Coded whole l rest ruled = value_layout_again Coded whole l rest ruled
+
+-- the faults and the parts of a layout are few
+pub layout_few : (kind : Kind) (l : Layout) → IsLayout kind l → (l.f ≤ MAX_F) × (l.k ≤ MAX_K)
+layout_few Tomb l is = rw is (omega arith, omega arith)
+layout_few Whole l ruled = (ruled.faults, ruled.few)
+layout_few Coded l ruled = (ruled.faults, ruled.few)
 
 -- ---- hashes
 
@@ -165,48 +191,7 @@ hashes_again (hash ∷ hashes) whole rest sized =
     let others = hashes_again hashes whole rest (All-tail IsHash hash hashes sized) in
     ap (hashes_at (suc (length hashes)) whole) regrouped ∙ rw (first, others) refl
 
--- ---- whole records
-
--- what stands behind the stamp of a value's record
-abbrev tail_of : RecordValue → List ℕ
-tail_of r = layout_bytes r.size r.f r.k r.clouds ++ concat r.hashes
-
--- a record of this kind and this stamp was read from the bytes up to the rest
-record Read (kind : Kind) (stamp : Timestamp) (bytes text : List ℕ) (r : RecordValue) (rest : List ℕ) : Type 0 where
-  takes : Takes bytes text rest
-  ruled : IsRecord r
-  stamped : r.stamp ≡ stamp
-  kind_is : r.kind ≡ kind
-
-value_takes : (kind : Kind) (stamp : Timestamp) (whole : ℕ) (bytes : List ℕ) (x : RecordValue × List ℕ) → most_bytes kind ≡ MAX_VALUE → most_faults kind ≡ MAX_F → IsStamp stamp → IsWritten stamp → IsBytes bytes
-    → value_at kind stamp whole bytes ≡ Ok x → Read kind stamp bytes (tail_of x.0) x.0 x.1
-unfolding value_at
-value_takes kind stamp whole bytes x sizes faults ranged written fits e =
-    let a = bind_ok (layout_at kind whole bytes) (λ layout. hashes_at (hash_count kind layout.0.f layout.0.k) whole layout.1 >>= λ hashes. Ok (record { stamp = stamp; kind = kind; size = layout.0.size; f = layout.0.f; k = layout.0.k; clouds = layout.0.clouds; hashes = hashes.0 }, hashes.1)) x e in
-    let l = a.0.0 in
-    let b = bind_ok (hashes_at (hash_count kind l.f l.k) whole a.0.1) (λ hashes. Ok (record { stamp = stamp; kind = kind; size = l.size; f = l.f; k = l.k; clouds = l.clouds; hashes = hashes.0 }, hashes.1)) x a.2 in
-    let t = layout_takes kind whole bytes a.0 fits a.1 in
-    let u = hashes_take (hash_count kind l.f l.k) whole a.0.1 b.0 t.0.rest_fits b.1 in
-    let both = Takes-then bytes (text_of l) a.0.1 (concat b.0.0) b.0.1 t.0 u.0 in
-    let made : RecordValue × List ℕ = (record { stamp = stamp; kind = kind; size = l.size; f = l.f; k = l.k; clouds = l.clouds; hashes = b.0.0 }, b.0.1) in
-    let ruled : IsRecord made.0 = record { stamp = ranged; written = written; size = rw sizes t.1.size; faults = rw faults t.1.faults; parts = t.1.parts; clouds = t.1.clouds; hashes = u.1; sizes = u.2 } in
-    subst (λ (y : RecordValue × List ℕ). Read kind stamp bytes (tail_of y.0) y.0 y.1) {x = made} (ok_is made x b.2) (record { takes = both; ruled = ruled; stamped = refl; kind_is = refl })
-
-none_listed : IsTrue (is_cloud_list 0 0 0)
-unfolding ones
-none_listed = refl
-
-tombstone_ruled : (stamp : Timestamp) → IsStamp stamp → IsWritten stamp → IsRecord (tombstone stamp)
-tombstone_ruled stamp ranged written = record { stamp = ranged; written = written; size = omega arith; faults = omega arith; parts = refl; clouds = none_listed; hashes = refl; sizes = All-nil IsHash }
-
-body_takes : (kind : Kind) (stamp : Timestamp) (whole : ℕ) (bytes : List ℕ) (x : RecordValue × List ℕ) → IsStamp stamp → IsWritten stamp → IsBytes bytes
-    → body_at kind stamp whole bytes ≡ Ok x → Read kind stamp bytes (value_bytes kind x.0) x.0 x.1
-unfolding body_at
-body_takes Tomb stamp whole bytes x ranged written fits e =
-    subst (λ (y : RecordValue × List ℕ). Read Tomb stamp bytes (value_bytes Tomb y.0) y.0 y.1) (ok_is (tombstone stamp, bytes) x e)
-    (record { takes = record { parts = refl; rest_fits = fits }; ruled = tombstone_ruled stamp ranged written; stamped = refl; kind_is = refl })
-body_takes Whole stamp whole bytes x ranged written fits e = value_takes Whole stamp whole bytes x refl refl ranged written fits e
-body_takes Coded stamp whole bytes x ranged written fits e = value_takes Coded stamp whole bytes x refl refl ranged written fits e
+-- ---- fields
 
 IsBytes-rest : (b : ℕ) (bytes : List ℕ) → IsBytes (b ∷ bytes) → IsBytes bytes
 IsBytes-rest b bytes fits i = fits (suc i)
@@ -226,39 +211,97 @@ kind_takes whole (suc zero ∷ bytes) x fits e = subst (λ (y : Kind × List ℕ
 kind_takes whole (suc (suc zero) ∷ bytes) x fits e = subst (λ (y : Kind × List ℕ). Takes (2 ∷ bytes) (kind_byte y.0 ∷ []) y.1) (ok_is (Coded, bytes) x e) (record { parts = refl; rest_fits = IsBytes-rest 2 bytes fits })
 kind_takes whole (suc (suc (suc b)) ∷ bytes) x fits e = absurd cc
 
--- a record that is read from the front is spelled there, and meets the rules
-pub record_takes : (whole : ℕ) (bytes : List ℕ) (x : RecordValue × List ℕ) → IsBytes bytes → record_at whole bytes ≡ Ok x → Takes bytes (record_bytes x.0) x.1 × IsRecord x.0
-unfolding record_at
-record_takes whole bytes x fits e =
-    let a = bind_ok (version_at whole bytes) (λ rest. kind_at whole rest >>= λ kind. stamp_at whole kind.1 >>= λ stamp. body_at kind.0 stamp.0 whole stamp.1) x e in
-    let b = bind_ok (kind_at whole a.0) (λ kind. stamp_at whole kind.1 >>= λ stamp. body_at kind.0 stamp.0 whole stamp.1) x a.2 in
-    let c = bind_ok (stamp_at whole b.0.1) (λ stamp. body_at b.0.0 stamp.0 whole stamp.1) x b.2 in
+-- the bytes that these fields spell
+abbrev fields_bytes : Fields → List ℕ
+fields_bytes fields = 1 ∷ kind_byte fields.kind ∷ (stamp_bytes fields.stamp ++ layout_text fields.kind fields.layout)
+
+-- these fields were read from the bytes up to the rest
+record Read (bytes : List ℕ) (fields : Fields) (rest : List ℕ) : Type 0 where
+  takes : Takes bytes (fields_bytes fields) rest
+  ranged : IsStamp fields.stamp
+  written : IsWritten fields.stamp
+  laid : IsLayout fields.kind fields.layout
+
+fields_take : (whole : ℕ) (bytes : List ℕ) (x : Fields × List ℕ) → IsBytes bytes → fields_at whole bytes ≡ Ok x → Read bytes x.0 x.1
+unfolding fields_at
+fields_take whole bytes x fits e =
+    let a = bind_ok (version_at whole bytes) (λ rest. kind_at whole rest >>= λ kind. stamp_at whole kind.1 >>= λ stamp. layout_at kind.0 whole stamp.1 >>= λ layout. Ok (record { kind = kind.0; stamp = stamp.0; layout = layout.0 }, layout.1)) x e in
+    let b = bind_ok (kind_at whole a.0) (λ kind. stamp_at whole kind.1 >>= λ stamp. layout_at kind.0 whole stamp.1 >>= λ layout. Ok (record { kind = kind.0; stamp = stamp.0; layout = layout.0 }, layout.1)) x a.2 in
+    let c = bind_ok (stamp_at whole b.0.1) (λ stamp. layout_at b.0.0 whole stamp.1 >>= λ layout. Ok (record { kind = b.0.0; stamp = stamp.0; layout = layout.0 }, layout.1)) x b.2 in
+    let d = bind_ok (layout_at b.0.0 whole c.0.1) (λ layout. Ok (record { kind = b.0.0; stamp = c.0.0; layout = layout.0 }, layout.1)) x c.2 in
     let ta = version_takes whole bytes a.0 fits a.1 in
     let tb = kind_takes whole a.0 b.0 ta.rest_fits b.1 in
     let tc = stamp_takes whole b.0.1 c.0 tb.rest_fits c.1 in
-    let td = body_takes b.0.0 c.0.0 whole c.0.1 x tc.1 tc.2 tc.0.rest_fits c.2 in
-    let cd = Takes-then b.0.1 (stamp_bytes c.0.0) c.0.1 (value_bytes b.0.0 x.0) x.1 tc.0 td.takes in
-    let bcd = Takes-then a.0 (kind_byte b.0.0 ∷ []) b.0.1 (stamp_bytes c.0.0 ++ value_bytes b.0.0 x.0) x.1 tb cd in
-    let all = Takes-then bytes (1 ∷ []) a.0 (kind_byte b.0.0 ∷ (stamp_bytes c.0.0 ++ value_bytes b.0.0 x.0)) x.1 ta bcd in
-    let text : Kind → Timestamp → List ℕ = λ kind stamp. 1 ∷ kind_byte kind ∷ (stamp_bytes stamp ++ value_bytes kind x.0) in
-    let named : Takes bytes (text x.0.kind c.0.0) x.1 = subst (λ (kind : Kind). Takes bytes (text kind c.0.0) x.1) (sym td.kind_is) all in
-    (subst (λ (stamp : Timestamp). Takes bytes (text x.0.kind stamp) x.1) (sym td.stamped) named, td.ruled)
+    let td = layout_takes b.0.0 whole c.0.1 d.0 tc.0.rest_fits d.1 in
+    let cd = Takes-then b.0.1 (stamp_bytes c.0.0) c.0.1 (layout_text b.0.0 d.0.0) d.0.1 tc.0 td.0 in
+    let bcd = Takes-then a.0 (kind_byte b.0.0 ∷ []) b.0.1 (stamp_bytes c.0.0 ++ layout_text b.0.0 d.0.0) d.0.1 tb cd in
+    let all = Takes-then bytes (1 ∷ []) a.0 (kind_byte b.0.0 ∷ (stamp_bytes c.0.0 ++ layout_text b.0.0 d.0.0)) d.0.1 ta bcd in
+    let made : Fields × List ℕ = (record { kind = b.0.0; stamp = c.0.0; layout = d.0.0 }, d.0.1) in
+    subst (λ (y : Fields × List ℕ). Read bytes y.0 y.1) {x = made} (ok_is made x d.2) (record { takes = all; ranged = tc.1; written = tc.2; laid = td.1 })
 
-value_again : (kind : Kind) (whole : ℕ) (r : RecordValue) (rest : List ℕ) → r.kind ≡ kind → most_bytes kind ≡ MAX_VALUE → most_faults kind ≡ MAX_F → IsRecord r
-    → value_at kind r.stamp whole (tail_of r ++ rest) ≡ Ok (r, rest)
-unfolding value_at
-value_again kind whole r rest is sizes faults ruled =
-    let l : Layout = record { size = r.size; f = r.f; k = r.k; clouds = r.clouds } in
-    let size : r.size ≤ MAX_VALUE = subst (λ (n : ℕ). r.size ≤ n) sizes (subst (λ (kk : Kind). r.size ≤ most_bytes kk) is ruled.size) in
-    let faulty : r.f ≤ MAX_F = subst (λ (n : ℕ). r.f ≤ n) faults (subst (λ (kk : Kind). r.f ≤ most_faults kk) is ruled.faults) in
-    let parts : is_part_count kind r.k ≡ true = subst (λ (kk : Kind). is_part_count kk r.k ≡ true) is ruled.parts in
-    let count : length r.hashes ≡ hash_count kind r.f r.k = subst (λ (kk : Kind). length r.hashes ≡ hash_count kk r.f r.k) is ruled.hashes in
-    let laid : IsLayout kind l = record { size = size; faults = faulty; parts = parts; few = few_parts kind r.k parts; clouds = ruled.clouds } in
-    let regrouped : tail_of r ++ rest ≡ text_of l ++ (concat r.hashes ++ rest) = append_assoc (text_of l) (concat r.hashes) rest in
-    let first = layout_again kind whole l (concat r.hashes ++ rest) laid in
-    let others : hashes_at (hash_count kind r.f r.k) whole (concat r.hashes ++ rest) ≡ Ok (r.hashes, rest) = subst (λ (n : ℕ). hashes_at n whole (concat r.hashes ++ rest) ≡ Ok (r.hashes, rest)) count (hashes_again r.hashes whole rest ruled.sizes) in
-    let made : Kind → Result (RecordValue × List ℕ) RecordFault = λ kk. Ok (record r { kind = kk }, rest) in
-    ap (value_at kind r.stamp whole) regrouped ∙ rw (first, others) (ap made (sym is))
+version_again : (whole : ℕ) (rest : List ℕ) → version_at whole (1 ∷ rest) ≡ Ok rest
+unfolding version_at
+version_again whole rest = refl
+
+kind_again : (whole : ℕ) (kind : Kind) (rest : List ℕ) → kind_at whole (kind_byte kind ∷ rest) ≡ Ok (kind, rest)
+unfolding kind_at
+kind_again whole Tomb rest = refl
+kind_again whole Whole rest = refl
+kind_again whole Coded rest = refl
+
+fields_again : (whole : ℕ) (fields : Fields) (rest : List ℕ) → IsStamp fields.stamp → IsWritten fields.stamp → IsLayout fields.kind fields.layout → fields_at whole (fields_bytes fields ++ rest) ≡ Ok (fields, rest)
+unfolding fields_at
+fields_again whole fields rest ranged written laid =
+    let regrouped : fields_bytes fields ++ rest ≡ 1 ∷ kind_byte fields.kind ∷ (stamp_bytes fields.stamp ++ (layout_text fields.kind fields.layout ++ rest)) =
+    ap (λ (t : List ℕ). 1 ∷ kind_byte fields.kind ∷ t) (append_assoc (stamp_bytes fields.stamp) (layout_text fields.kind fields.layout) rest) in
+    let version = version_again whole (kind_byte fields.kind ∷ (stamp_bytes fields.stamp ++ (layout_text fields.kind fields.layout ++ rest))) in
+    let kind = kind_again whole fields.kind (stamp_bytes fields.stamp ++ (layout_text fields.kind fields.layout ++ rest)) in
+    let stamp = stamp_again whole fields.stamp (layout_text fields.kind fields.layout ++ rest) ranged written in
+    let layout = layout_again fields.kind whole fields.layout rest laid in
+    ap (fields_at whole) regrouped ∙ rw (version, kind, stamp, layout) refl
+
+-- what is left after the fields is no longer than what they were read from
+pub fields_shorter : (whole : ℕ) (bytes : List ℕ) (fields : Fields) (rest : List ℕ) → IsBytes bytes → fields_at whole bytes ≡ Ok (fields, rest) → length rest ≤ length bytes
+fields_shorter whole bytes fields rest fits e =
+    let t = fields_take whole bytes (fields, rest) fits e in
+    omega (arith, ap (length {A = ℕ}) t.takes.parts, length-append (fields_bytes fields) rest)
+
+-- ---- whole records
+
+none_listed : IsTrue (is_cloud_list 0 0 0)
+unfolding ones
+none_listed = refl
+
+-- these fields and as many hashes as are due are a record
+pub fields_ruled : (kind : Kind) (stamp : Timestamp) (l : Layout) (hashes : Hashes) → IsStamp stamp → IsWritten stamp → IsLayout kind l → length hashes ≡ hash_count kind l.f l.k → All IsHash hashes
+    → IsRecord (record_with (record { kind = kind; stamp = stamp; layout = l }) hashes)
+fields_ruled Tomb stamp l hashes ranged written is count sized =
+    subst (λ (x : Layout). IsRecord (record_with (record { kind = Tomb; stamp = stamp; layout = x }) hashes)) {x = no_layout} (sym is)
+    (record { stamp = ranged; written = written; size = omega arith; faults = omega arith; parts = refl; clouds = none_listed; hashes = count; sizes = sized })
+fields_ruled Whole stamp l hashes ranged written laid count sized =
+    record { stamp = ranged; written = written; size = laid.size; faults = laid.faults; parts = laid.parts; clouds = laid.clouds; hashes = count; sizes = sized }
+fields_ruled Coded stamp l hashes ranged written laid count sized =
+    record { stamp = ranged; written = written; size = laid.size; faults = laid.faults; parts = laid.parts; clouds = laid.clouds; hashes = count; sizes = sized }
+
+no_hashes : (hashes : Hashes) → length hashes ≡ 0 → concat hashes ≡ []
+no_hashes hashes none = ap concat (nil_from_length hashes none)
+
+-- the bytes of the fields and those of the hashes are the record's
+value_text : (kind : Kind) (stamp : Timestamp) (l : Layout) (hashes : Hashes) → length hashes ≡ hash_count kind l.f l.k
+    → layout_text kind l ++ concat hashes ≡ value_bytes kind (record_with (record { kind = kind; stamp = stamp; layout = l }) hashes)
+value_text Tomb stamp l hashes count = no_hashes hashes count
+value_text Whole stamp l hashes count = refl
+value_text Coded stamp l hashes count = refl
+
+record_text : (fields : Fields) (hashes : Hashes) → length hashes ≡ hashes_due fields → fields_bytes fields ++ concat hashes ≡ record_bytes (record_with fields hashes)
+record_text fields hashes count =
+    ap (λ (t : List ℕ). 1 ∷ kind_byte fields.kind ∷ t)
+    (append_assoc (stamp_bytes fields.stamp) (layout_text fields.kind fields.layout) (concat hashes)
+    ∙ ap (λ (t : List ℕ). stamp_bytes fields.stamp ++ t) (value_text fields.kind fields.stamp fields.layout hashes count))
+
+-- the record at the front, and the bytes after it
+unfoldable pub record_at : ℕ → List ℕ → Result (RecordValue × List ℕ) RecordFault
+record_at whole bytes = fields_at whole bytes >>= λ fields. hashes_at (hashes_due fields.0) whole fields.1 >>= λ hashes. Ok (record_with fields.0 hashes.0, hashes.1)
 
 one_cloud : (clouds : ℕ) → is_cloud_list 0 0 clouds ≡ true → clouds ≡ 0
 one_cloud clouds e = let below = cloud_test 0 0 clouds e in omega arith
@@ -280,50 +323,68 @@ tombstone_only r is ruled =
     let made : Kind × ℕ × ℕ × ℕ × ℕ × Hashes → RecordValue = λ p. record { stamp = r.stamp; kind = p.0; size = p.1; f = p.2; k = p.3; clouds = p.4; hashes = p.5 } in
     ap made both
 
-body_again : (kind : Kind) (whole : ℕ) (r : RecordValue) (rest : List ℕ) → r.kind ≡ kind → IsRecord r → body_at kind r.stamp whole (value_bytes kind r ++ rest) ≡ Ok (r, rest)
-unfolding body_at
-body_again Tomb whole r rest is ruled = ap (λ (x : RecordValue). Ok (x, rest)) (tombstone_only r is ruled)
-body_again Whole whole r rest is ruled = value_again Whole whole r rest is refl refl ruled
-body_again Coded whole r rest is ruled = value_again Coded whole r rest is refl refl ruled
+value_laid : (kind : Kind) (r : RecordValue) → r.kind ≡ kind → most_bytes kind ≡ MAX_VALUE → most_faults kind ≡ MAX_F → IsRecord r → IsValueLayout kind (record { size = r.size; f = r.f; k = r.k; clouds = r.clouds })
+value_laid kind r is sizes faults ruled =
+    let size : r.size ≤ MAX_VALUE = subst (λ (n : ℕ). r.size ≤ n) sizes (subst (λ (kk : Kind). r.size ≤ most_bytes kk) is ruled.size) in
+    let faulty : r.f ≤ MAX_F = subst (λ (n : ℕ). r.f ≤ n) faults (subst (λ (kk : Kind). r.f ≤ most_faults kk) is ruled.faults) in
+    let parts : is_part_count kind r.k ≡ true = subst (λ (kk : Kind). is_part_count kk r.k ≡ true) is ruled.parts in
+    record { size = size; faults = faulty; parts = parts; few = few_parts kind r.k parts; clouds = ruled.clouds }
 
-version_again : (whole : ℕ) (rest : List ℕ) → version_at whole (1 ∷ rest) ≡ Ok rest
-unfolding version_at
-version_again whole rest = refl
+-- the fields of a record
+abbrev fields_in : RecordValue → Fields
+fields_in r = record { kind = r.kind; stamp = r.stamp; layout = record { size = r.size; f = r.f; k = r.k; clouds = r.clouds } }
 
-kind_again : (whole : ℕ) (kind : Kind) (rest : List ℕ) → kind_at whole (kind_byte kind ∷ rest) ≡ Ok (kind, rest)
-unfolding kind_at
-kind_again whole Tomb rest = refl
-kind_again whole Whole rest = refl
-kind_again whole Coded rest = refl
+no_layout-in : (r : RecordValue) → tombstone r.stamp ≡ r → (fields_in r).layout ≡ no_layout
+no_layout-in r is = ap (λ (x : RecordValue). (fields_in x).layout) (sym is)
+
+fields_laid : (kind : Kind) (r : RecordValue) → r.kind ≡ kind → IsRecord r → IsLayout kind (fields_in r).layout
+fields_laid Tomb r is ruled = no_layout-in r (tombstone_only r is ruled)
+fields_laid Whole r is ruled = value_laid Whole r is refl refl ruled
+fields_laid Coded r is ruled = value_laid Coded r is refl refl ruled
 
 -- a record's spelling is read again, whatever follows it
 pub record_again : (whole : ℕ) (r : RecordValue) (rest : List ℕ) → IsRecord r → record_at whole (record_bytes r ++ rest) ≡ Ok (r, rest)
 unfolding record_at
 record_again whole r rest ruled =
-    let regrouped : record_bytes r ++ rest ≡ 1 ∷ kind_byte r.kind ∷ (stamp_bytes r.stamp ++ (value_bytes r.kind r ++ rest)) =
-    ap (λ (t : List ℕ). 1 ∷ kind_byte r.kind ∷ t) (append_assoc (stamp_bytes r.stamp) (value_bytes r.kind r) rest) in
-    let version = version_again whole (kind_byte r.kind ∷ (stamp_bytes r.stamp ++ (value_bytes r.kind r ++ rest))) in
-    let kind = kind_again whole r.kind (stamp_bytes r.stamp ++ (value_bytes r.kind r ++ rest)) in
-    let stamp = stamp_again whole r.stamp (value_bytes r.kind r ++ rest) ruled.stamp ruled.written in
-    let body = body_again r.kind whole r rest refl ruled in
-    ap (record_at whole) regrouped ∙ rw (version, kind, stamp, body) refl
+    let fields = fields_in r in
+    let text : record_bytes r ++ rest ≡ fields_bytes fields ++ (concat r.hashes ++ rest) =
+    ap (λ (t : List ℕ). t ++ rest) (sym (record_text fields r.hashes ruled.hashes)) ∙ append_assoc (fields_bytes fields) (concat r.hashes) rest in
+    let first = fields_again whole fields (concat r.hashes ++ rest) ruled.stamp ruled.written (fields_laid r.kind r refl ruled) in
+    let others : hashes_at (hashes_due fields) whole (concat r.hashes ++ rest) ≡ Ok (r.hashes, rest) =
+    subst (λ (n : ℕ). hashes_at n whole (concat r.hashes ++ rest) ≡ Ok (r.hashes, rest)) ruled.hashes (hashes_again r.hashes whole rest ruled.sizes) in
+    ap (record_at whole) text ∙ rw (first, others) refl
 
 -- all of the bytes spell the record that is read from them
 pub record_of_takes : (bytes : List ℕ) (r : RecordValue) → IsBytes bytes → record_of bytes ≡ Ok r → IsRecord r × (bytes ≡ record_bytes r)
-unfolding record_of
+unfolding record_of ended_at
 record_of_takes bytes r fits e =
-    let a = bind_ok (record_at (length bytes) bytes) (λ x. cond (eqb (length x.1) 0) (Ok x.0) (Err (faults.Extra (length bytes - length x.1)))) r e in
-    let g = guard_true (eqb (length a.0.1) 0) (faults.Extra (length bytes - length a.0.1)) a.0.0 r a.2 in
-    let t = record_takes (length bytes) bytes a.0 fits a.1 in
-    let nothing : a.0.1 ≡ [] = nil_from_length a.0.1 (eqb-true (length a.0.1) 0 g.0) in
-    let whole : bytes ≡ record_bytes a.0.0 = t.0.parts ∙ ap (λ (t : List ℕ). record_bytes a.0.0 ++ t) nothing ∙ append-nil (record_bytes a.0.0) in
-    subst (λ (x : RecordValue). IsRecord x × (bytes ≡ record_bytes x)) g.1 (t.1, whole)
+    let whole = length bytes in
+    let a = bind_ok (fields_at whole bytes) (λ fields. hashes_at (hashes_due fields.0) whole fields.1 >>= λ hashes. cond (eqb (length hashes.1) 0) (Ok (record_with fields.0 hashes.0)) (Err (faults.Extra (whole - length hashes.1)))) r e in
+    let fields = a.0.0 in
+    let b = bind_ok (hashes_at (hashes_due fields) whole a.0.1) (λ hashes. cond (eqb (length hashes.1) 0) (Ok (record_with fields hashes.0)) (Err (faults.Extra (whole - length hashes.1)))) r a.2 in
+    let g = guard_true (eqb (length b.0.1) 0) (faults.Extra (whole - length b.0.1)) (record_with fields b.0.0) r b.2 in
+    let t = fields_take whole bytes a.0 fits a.1 in
+    let u = hashes_take (hashes_due fields) whole a.0.1 b.0 t.takes.rest_fits b.1 in
+    let both = Takes-then bytes (fields_bytes fields) a.0.1 (concat b.0.0) b.0.1 t.takes u.0 in
+    let nothing : b.0.1 ≡ [] = nil_from_length b.0.1 (eqb-true (length b.0.1) 0 g.0) in
+    let text : fields_bytes fields ++ concat b.0.0 ≡ record_bytes (record_with fields b.0.0) = record_text fields b.0.0 u.1 in
+    let all : bytes ≡ record_bytes (record_with fields b.0.0) =
+    both.parts ∙ ap (λ (t : List ℕ). (fields_bytes fields ++ concat b.0.0) ++ t) nothing ∙ append-nil (fields_bytes fields ++ concat b.0.0) ∙ text in
+    let ruled : IsRecord (record_with fields b.0.0) = fields_ruled fields.kind fields.stamp fields.layout b.0.0 t.ranged t.written t.laid u.1 u.2 in
+    subst (λ (x : RecordValue). IsRecord x × (bytes ≡ record_bytes x)) g.1 (ruled, all)
 
 pub record_of_again : (r : RecordValue) → IsRecord r → record_of (record_bytes r) ≡ Ok r
-unfolding record_of
+unfolding record_of ended_at
 record_of_again r ruled =
-    let read : record_at (length (record_bytes r)) (record_bytes r) ≡ Ok (r, []) = ap (record_at (length (record_bytes r))) (sym (append-nil (record_bytes r))) ∙ record_again (length (record_bytes r)) r [] ruled in
-    rw read refl
+    let whole = length (record_bytes r) in
+    let fields = fields_in r in
+    let text : record_bytes r ≡ fields_bytes fields ++ concat r.hashes = sym (record_text fields r.hashes ruled.hashes) in
+    let first : fields_at whole (record_bytes r) ≡ Ok (fields, concat r.hashes) =
+    ap (fields_at whole) text ∙ fields_again whole fields (concat r.hashes) ruled.stamp ruled.written (fields_laid r.kind r refl ruled) in
+    let others : hashes_at (hashes_due fields) whole (concat r.hashes) ≡ Ok (r.hashes, []) =
+    ap (hashes_at (hashes_due fields) whole) (sym (append-nil (concat r.hashes)))
+    ∙ subst (λ (n : ℕ). hashes_at n whole (concat r.hashes ++ []) ≡ Ok (r.hashes, [])) ruled.hashes (hashes_again r.hashes whole [] ruled.sizes) in
+    rw (first, others) refl
 
 -- ---- spellings
 
@@ -388,8 +449,64 @@ spelled_decodes bytes r spelled =
     let t = record_spelled bytes r spelled in
     ap record_of t.1 ∙ record_of_again r t.0
 
--- what is left is no longer than what was read from
-pub rest_shorter : (whole : ℕ) (bytes : List ℕ) (r : RecordValue) (rest : List ℕ) → IsBytes bytes → record_at whole bytes ≡ Ok (r, rest) → length rest ≤ length bytes
-rest_shorter whole bytes r rest fits e =
-    let t = record_takes whole bytes (r, rest) fits e in
-    omega (arith, ap (length {A = ℕ}) t.0.parts, length-append (record_bytes r) rest)
+-- ---- faults
+
+-- an answer that is the fault that is due
+pub fails_so : {Y : Type 0} (fault : RecordFault) (due : Result Y RecordFault) → due ≡ Err fault → Gives {X = Y} (λ y. y) (Err fault) due
+fails_so (faults.Short size) due is = is
+fails_so (faults.BadVersion byte) due is = is
+fails_so (faults.BadKind byte) due is = is
+fails_so (faults.BadShape place) due is = is
+fails_so (faults.Extra place) due is = is
+fails_so faults.NoMemory due is = tt
+
+short_hashes : (count whole : ℕ) (bytes : List ℕ) → length bytes < HASH_SIZE * count → hashes_at count whole bytes ≡ Err (faults.Short whole)
+unfolding hashes_at hash_at
+short_hashes zero whole bytes short = absurd (omega arith)
+short_hashes (suc count) whole bytes short =
+    elim (cases_lt (length bytes) HASH_SIZE) [
+      | inl none ↦ let test : ltb (length bytes) HASH_SIZE ≡ true = lt-ltb (length bytes) HASH_SIZE none in rw test refl
+      | inr one ↦
+          let test : ltb (length bytes) HASH_SIZE ≡ false = le-ltb (length bytes) HASH_SIZE one in
+          let rest = short_hashes count whole (drop HASH_SIZE bytes) (omega (arith, length-drop HASH_SIZE bytes)) in
+          rw (test, rest) refl
+    ]
+
+more_hashes : (count whole : ℕ) (bytes : List ℕ) → HASH_SIZE * count ≤ length bytes → (hashes : Hashes) × (rest : List ℕ) × (hashes_at count whole bytes ≡ Ok (hashes, rest)) × (length rest + HASH_SIZE * count ≡ length bytes)
+unfolding hashes_at hash_at
+more_hashes zero whole bytes enough = ([], bytes, refl, omega arith)
+more_hashes (suc count) whole bytes enough =
+    let test : ltb (length bytes) HASH_SIZE ≡ false = le-ltb (length bytes) HASH_SIZE (omega arith) in
+    let later = more_hashes count whole (drop HASH_SIZE bytes) (omega (arith, length-drop HASH_SIZE bytes)) in
+    (take HASH_SIZE bytes ∷ later.0, later.1, rw (test, later.2) refl, omega (arith, later.3, length-drop HASH_SIZE bytes))
+
+-- the rest ends before the last hash is whole
+pub ended-short : (fields : Fields) (whole : ℕ) (rest : List ℕ) → length rest < HASH_SIZE * hashes_due fields → ended_at fields whole rest ≡ Err (faults.Short whole)
+unfolding ended_at
+ended-short fields whole rest short = rw (short_hashes (hashes_due fields) whole rest short) refl
+
+-- bytes stand after the last hash
+pub ended-extra : (fields : Fields) (whole : ℕ) (rest : List ℕ) → HASH_SIZE * hashes_due fields < length rest → ended_at fields whole rest ≡ Err (faults.Extra (whole - (length rest - HASH_SIZE * hashes_due fields)))
+unfolding ended_at
+ended-extra fields whole rest over =
+    let read = more_hashes (hashes_due fields) whole rest (omega arith) in
+    let left : length read.1 ≡ length rest - HASH_SIZE * hashes_due fields = omega (arith, read.3) in
+    let more : eqb (length read.1) 0 ≡ false = ne_eqb (length read.1) 0 (λ none. absurd (omega (arith, read.3))) in
+    rw (read.2, more) (ap (λ (n : ℕ). Err (faults.Extra (whole - n))) left)
+
+-- the rest is the hashes
+pub ended-whole : (fields : Fields) (whole : ℕ) (hashes : Hashes) (rest : List ℕ) → length hashes ≡ hashes_due fields → All IsHash hashes → concat hashes ≡ rest → ended_at fields whole rest ≡ Ok (record_with fields hashes)
+unfolding ended_at
+ended-whole fields whole hashes rest count sized is =
+    let read : hashes_at (hashes_due fields) whole rest ≡ Ok (hashes, []) =
+    ap (hashes_at (hashes_due fields) whole) (sym is ∙ sym (append-nil (concat hashes)))
+    ∙ subst (λ (n : ℕ). hashes_at n whole (concat hashes ++ []) ≡ Ok (hashes, [])) count (hashes_again hashes whole [] sized) in
+    rw read refl
+
+-- where the rest is as long as the hashes, nothing is at fault
+pub ended-fits : (fields : Fields) (whole : ℕ) (rest : List ℕ) → length rest ≡ HASH_SIZE * hashes_due fields → (r : RecordValue) × (ended_at fields whole rest ≡ Ok r)
+unfolding ended_at
+ended-fits fields whole rest size =
+    let read = more_hashes (hashes_due fields) whole rest (omega arith) in
+    let none : eqb (length read.1) 0 ≡ true = eq-eqb (length read.1) 0 (omega (arith, read.3)) in
+    (record_with fields read.0, rw (read.2, none) refl)

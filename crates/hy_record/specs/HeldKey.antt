@@ -1,4 +1,4 @@
--- How a key lies in its array: its bytes in front, and zeros behind them.
+-- How a key lies in its array: its bytes in front, and zeros after them.
 use Rattle.std.specs.Prelude.{◌≡◌, ℕ, ◌-◌, ◌≤◌, List, ◌++◌, length, take, drop, IsTrue, replicate}
 use Rattle.std.proofs.Common.{arith, ap}
 use Rattle.std.proofs.lemmas.List.{length-take-le, take-append-drop}

@@ -16,7 +16,7 @@ stamp_bytes stamp = big_bytes 4 stamp.sn ++ big_bytes 4 stamp.cid
 abbrev pub layout_bytes : ℕ → ℕ → ℕ → ℕ → List ℕ
 layout_bytes size f k clouds = big_bytes 4 size ++ big_bytes 1 f ++ big_bytes 1 k ++ big_bytes 2 clouds
 
--- behind the version: a deletion has its stamp, a whole value one hash, a coded one the hashes one after another
+-- after the version: a deletion has its stamp, a whole value one hash, a coded one the hashes one after another
 abbrev pub SpellsKind : Kind → List ℕ → RecordValue → Type 0
 SpellsKind Tomb bytes r = bytes ≡ 0 ∷ stamp_bytes r.stamp
 SpellsKind Whole bytes r = (hash : List ℕ) × (r.hashes ≡ hash ∷ []) × (bytes ≡ 1 ∷ stamp_bytes r.stamp ++ layout_bytes r.size r.f r.k r.clouds ++ hash)
@@ -33,7 +33,7 @@ kind_byte Tomb = 0
 kind_byte Whole = 1
 kind_byte Coded = 2
 
--- what stands behind the stamp
+-- what stands after the stamp
 abbrev pub value_bytes : Kind → RecordValue → List ℕ
 value_bytes Tomb r = []
 value_bytes Whole r = layout_bytes r.size r.f r.k r.clouds ++ concat r.hashes

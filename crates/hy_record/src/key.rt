@@ -89,7 +89,7 @@ fn first_bad_place(text: &[u8]) -> Option<usize>
     text.iter().position(|byte| !may_stand(*byte))
 }
 
-/// The text, and zeros behind it.
+/// The text, and zeros after it.
 fn padded(text: &[u8]) -> [u8; MAX_KEY]
     requires { length text.now ≤ MAX_KEY }
     ensures { result ≡ text.now ++ replicate (MAX_KEY - length text.now) 0 }

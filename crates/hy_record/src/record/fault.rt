@@ -17,7 +17,7 @@ pub enum RecordFault {
     BadKind(u8),
     /// The field at this place breaks its rule.
     BadShape(usize),
-    /// Bytes stand behind the last field, from this place on.
+    /// Bytes stand after the last field, from this place on.
     Extra(usize),
     /// Memory ran out.
     NoMemory,

@@ -1,20 +1,20 @@
 //! Reading a record from bytes.
 
-ghost use Rattle.std.specs.Prelude.{◌≡◌, ◌≢◌, ◌≤◌, ◌++◌, List, ℕ, Ok, IfOk, All, length};
+ghost use Rattle.std.specs.Prelude.{◌≡◌, ◌≢◌, ◌≤◌, ◌*◌, Ok, IfOk, IfErr, All, length};
 ghost use Rattle.hy_record.specs.Stamp.{IsWritten};
-ghost use Rattle.hy_record.specs.Hash.{IsHash};
-ghost use Rattle.hy_record.specs.Record.{RecordValue, IsRecord, hash_count, is_cloud_list};
-ghost use Rattle.hy_record.specs.Spelling.{SpellsRecord, record_bytes};
-ghost use Rattle.hy_record.specs.Reading.{Gives, IsLayout, number_at, version_at, kind_at, stamp_at, layout_at, hash_at, hashes_at, value_at, body_at, record_at, record_of};
+ghost use Rattle.std.specs.List.{concat};
+ghost use Rattle.hy_record.specs.Hash.{IsHash, HASH_SIZE};
+ghost use Rattle.hy_record.specs.Record.{RecordValue, is_cloud_list};
+ghost use Rattle.hy_record.specs.Spelling.{SpellsRecord};
+ghost use Rattle.hy_record.specs.Reading.{Gives, GivesExactly, IsValueLayout, IsLayout, number_at, version_at, kind_at, stamp_at, value_layout_at, layout_at, fields_at, ended_at, record_of};
 
 use super::Record;
 use super::fault::RecordFault;
-use super::spelling::VERSION;
 use crate::hash::Hash;
 use crate::kind::Kind;
 use crate::stamp::Stamp;
 use byteorder::{BigEndian, ByteOrder};
-use hy_base::{MAX_F, MAX_K, MAX_VALUE, SN_END, cloud_count, quorum_size};
+use hy_base::{MAX_F, MAX_K, MAX_VALUE, NoMemory, SN_END, cloud_count, quorum_size};
 use std::alloc::Global;
 
 impl Record {
@@ -26,6 +26,8 @@ impl Record {
         ensures only { (r : RecordValue) → SpellsRecord bytes.now r → Gives (λ v. v) result (Ok r) }
         // A fault is the first in order of place.
         ensures exact { Gives (λ r. r) result (record_of bytes.now) }
+        // Memory is taken for a record alone, once nothing is at fault.
+        ensures refused { IfErr (record_of bytes.now) (λ fault. result ≡ Err fault) }
     {
         whole_of(alloc, bytes)
     }
@@ -40,9 +42,17 @@ pub(crate) struct Layout {
     clouds: u16,
 }
 
-/// The number in the first four bytes, and the bytes behind it.
+/// What all fields but the hashes say.
+#[derive(Clone, Copy)]
+pub(crate) struct Fields {
+    kind: Kind,
+    stamp: Stamp,
+    layout: Layout,
+}
+
+/// The number in the first four bytes, and the bytes after it.
 fn u32_at(whole: usize, bytes: &[u8]) -> Result<(u32, &[u8]), RecordFault>
-    ensures { Gives (λ x. (x.0, x.1.now)) result (number_at 4 whole bytes.now) }
+    ensures { GivesExactly (λ x. (x.0, x.1.now)) result (number_at 4 whole bytes.now) }
 {
     if bytes.len() < 4 {
         return Err(RecordFault::Short(whole));
@@ -51,9 +61,9 @@ fn u32_at(whole: usize, bytes: &[u8]) -> Result<(u32, &[u8]), RecordFault>
     Ok((BigEndian::read_u32(front), rest))
 }
 
-/// The number in the first two bytes, and the bytes behind it.
+/// The number in the first two bytes, and the bytes after it.
 fn u16_at(whole: usize, bytes: &[u8]) -> Result<(u16, &[u8]), RecordFault>
-    ensures { Gives (λ x. (x.0, x.1.now)) result (number_at 2 whole bytes.now) }
+    ensures { GivesExactly (λ x. (x.0, x.1.now)) result (number_at 2 whole bytes.now) }
 {
     if bytes.len() < 2 {
         return Err(RecordFault::Short(whole));
@@ -62,9 +72,9 @@ fn u16_at(whole: usize, bytes: &[u8]) -> Result<(u16, &[u8]), RecordFault>
     Ok((BigEndian::read_u16(front), rest))
 }
 
-/// The first byte, and the bytes behind it.
+/// The first byte, and the bytes after it.
 fn u8_at(whole: usize, bytes: &[u8]) -> Result<(u8, &[u8]), RecordFault>
-    ensures { Gives (λ x. (x.0, x.1.now)) result (number_at 1 whole bytes.now) }
+    ensures { GivesExactly (λ x. (x.0, x.1.now)) result (number_at 1 whole bytes.now) }
 {
     match bytes {
         [] => Err(RecordFault::Short(whole)),
@@ -72,10 +82,10 @@ fn u8_at(whole: usize, bytes: &[u8]) -> Result<(u8, &[u8]), RecordFault>
     }
 }
 
-/// The bytes behind the version.
+/// The bytes after the version.
 #[tactic(auto, unfolding(crate::specs::Reading::version_at))]
 fn version_of(whole: usize, bytes: &[u8]) -> Result<&[u8], RecordFault>
-    ensures { Gives (λ rest. rest.now) result (version_at whole bytes.now) }
+    ensures { GivesExactly (λ rest. rest.now) result (version_at whole bytes.now) }
 {
     match bytes {
         [] => Err(RecordFault::Short(whole)),
@@ -84,10 +94,10 @@ fn version_of(whole: usize, bytes: &[u8]) -> Result<&[u8], RecordFault>
     }
 }
 
-/// The kind, and the bytes behind it.
+/// The kind, and the bytes after it.
 #[tactic(auto, unfolding(crate::specs::Reading::kind_at))]
 fn kind_of(whole: usize, bytes: &[u8]) -> Result<(Kind, &[u8]), RecordFault>
-    ensures { Gives (λ x. (x.0, x.1.now)) result (kind_at whole bytes.now) }
+    ensures { GivesExactly (λ x. (x.0, x.1.now)) result (kind_at whole bytes.now) }
 {
     match bytes {
         [] => Err(RecordFault::Short(whole)),
@@ -98,10 +108,10 @@ fn kind_of(whole: usize, bytes: &[u8]) -> Result<(Kind, &[u8]), RecordFault>
     }
 }
 
-/// A write's timestamp, and the bytes behind it.
+/// A write's timestamp, and the bytes after it.
 #[tactic(auto, unfolding(crate::specs::Reading::stamp_at))]
 fn stamp_of(whole: usize, bytes: &[u8]) -> Result<(Stamp, &[u8]), RecordFault>
-    ensures value { Gives (λ x. (x.0, x.1.now)) result (stamp_at whole bytes.now) }
+    ensures value { GivesExactly (λ x. (x.0, x.1.now)) result (stamp_at whole bytes.now) }
     ensures written { IfOk result (λ x. IsWritten x.0) }
 {
     let (sn, rest) = u32_at(whole, bytes)?;
@@ -118,11 +128,11 @@ fn stamp_of(whole: usize, bytes: &[u8]) -> Result<(Stamp, &[u8]), RecordFault>
     }
 }
 
-/// The layout of a value of this kind, and the bytes behind it.
-#[tactic(auto, unfolding(crate::specs::Reading::layout_at))]
-fn layout_of(kind: Kind, whole: usize, bytes: &[u8]) -> Result<(Layout, &[u8]), RecordFault>
-    ensures value { Gives (λ x. (x.0, x.1.now)) result (layout_at kind whole bytes.now) }
-    ensures ruled { IfOk result (λ x. IsLayout kind x.0) }
+/// The layout of a value of this kind, and the bytes after it.
+#[tactic(auto, unfolding(crate::specs::Reading::value_layout_at))]
+fn value_layout_of(kind: Kind, whole: usize, bytes: &[u8]) -> Result<(Layout, &[u8]), RecordFault>
+    ensures value { GivesExactly (λ x. (x.0, x.1.now)) result (value_layout_at kind whole bytes.now) }
+    ensures ruled { IfOk result (λ x. IsValueLayout kind x.0) }
 {
     let (size, rest) = u32_at(whole, bytes)?;
     if size > MAX_VALUE {
@@ -154,58 +164,94 @@ fn lists_quorum(f: u8, k: u8, clouds: u16) -> bool
         && clouds.count_ones() == u32::from(quorum_size(f, k))
 }
 
-/// The bytes of a hash, and those behind it.
-#[tactic(auto, unfolding(crate::specs::Reading::hash_at))]
-fn hash_of(whole: usize, bytes: &[u8]) -> Result<([u8; 32], &[u8]), RecordFault>
-    ensures { Gives (λ x. (x.0, x.1.now)) result (hash_at whole bytes.now) }
+/// The layout of what this kind stands for, and the bytes after it.
+#[tactic(auto, unfolding(crate::specs::Reading::layout_at))]
+fn layout_of(kind: Kind, whole: usize, bytes: &[u8]) -> Result<(Layout, &[u8]), RecordFault>
+    ensures value { GivesExactly (λ x. (x.0, x.1.now)) result (layout_at kind whole bytes.now) }
+    ensures ruled { IfOk result (λ x. IsLayout kind x.0) }
 {
-    if bytes.len() < 32 {
-        return Err(RecordFault::Short(whole));
+    match kind {
+        Kind::Tomb => {
+            let none = Layout {
+                size: 0,
+                f: 0,
+                k: 0,
+                clouds: 0,
+            };
+            Ok((none, bytes))
+        }
+        Kind::Whole => value_layout_of(Kind::Whole, whole, bytes),
+        Kind::Coded => value_layout_of(Kind::Coded, whole, bytes),
     }
-    let (front, rest) = bytes.split_at(32);
-    let mut hash = [0; 32];
-    hash.copy_from_slice(front);
-    Ok((hash, rest))
 }
 
-/// So many hashes, and the bytes behind them.
-fn hashes_of(
-    alloc: Global,
-    count: u8,
-    whole: usize,
-    bytes: &[u8],
-) -> Result<(Vec<Hash>, &[u8]), RecordFault>
-    ensures value { Gives (λ x. (x.0.items, x.1.now)) result (hashes_at count whole bytes.now) }
-    ensures count { IfOk result (λ x. length x.0.items ≡ count) }
-    ensures sizes { IfOk result (λ x. All IsHash x.0.items) }
+/// What all fields but the hashes say, and the bytes after them.
+#[tactic(auto, unfolding(crate::specs::Reading::fields_at))]
+fn fields_of(whole: usize, bytes: &[u8]) -> Result<(Fields, &[u8]), RecordFault>
+    ensures value { GivesExactly (λ x. (x.0, x.1.now)) result (fields_at whole bytes.now) }
+    ensures written { IfOk result (λ x. IsWritten x.0.stamp) }
+    ensures ruled { IfOk result (λ x. IsLayout x.0.kind x.0.layout) }
+{
+    let rest = version_of(whole, bytes)?;
+    let (kind, rest) = kind_of(whole, rest)?;
+    match stamp_of(whole, rest) {
+        Ok((stamp, rest)) => {
+            let (layout, rest) = layout_of(kind, whole, rest)?;
+            let fields = Fields {
+                kind,
+                stamp,
+                layout,
+            };
+            Ok((fields, rest))
+        }
+        Err(fault) => Err(fault),
+    }
+}
+
+/// So many hashes, which are the bytes.
+fn hashes_of(alloc: Global, count: u8, bytes: &[u8]) -> Result<Vec<Hash>, NoMemory>
+    requires { length bytes.now ≡ HASH_SIZE * count }
+    ensures value { IfOk result (λ hashes. concat hashes.items ≡ bytes.now) }
+    ensures count { IfOk result (λ hashes. length hashes.items ≡ count) }
+    ensures sizes { IfOk result (λ hashes. All IsHash hashes.items) }
 {
     let mut hashes = Vec::new(alloc);
-    let mut rest = bytes;
-    for _ in 0..count {
-        let (hash, after) = hash_of(whole, rest)?;
+    for i in 0..count as usize {
+        let mut hash = [0; 32];
+        hash.copy_from_slice(&bytes[32 * i..32 * i + 32]);
         hashes.push(Hash::of(hash).known())?;
-        rest = after;
     }
-    Ok((hashes, rest))
+    Ok(hashes)
 }
 
-/// A value's record, read from its layout on, and the bytes behind it.
-#[tactic(auto, unfolding(crate::specs::Reading::value_at))]
-fn value_of(
+/// The record of these fields, where the rest of all the bytes is its hashes.
+fn record_of_fields(
     alloc: Global,
-    kind: Kind,
-    stamp: Stamp,
+    fields: Fields,
     whole: usize,
-    bytes: &[u8],
-) -> Result<(Record, &[u8]), RecordFault>
-    requires value { kind ≢ Kind.Tomb }
-    requires written { IsWritten stamp }
-    ensures { Gives (λ x. (x.0, x.1.now)) result (value_at kind stamp whole bytes.now) }
+    rest: &[u8],
+) -> Result<Record, RecordFault>
+    requires written { IsWritten fields.stamp }
+    requires ruled { IsLayout fields.kind fields.layout }
+    requires inside { length rest.now ≤ whole }
+    ensures value { Gives (λ r. r) result (ended_at fields whole rest.now) }
+    ensures refused { IfErr (ended_at fields whole rest.now) (λ fault. result ≡ Err fault) }
 {
-    let (layout, rest) = layout_of(kind, whole, bytes)?;
+    let Fields {
+        kind,
+        stamp,
+        layout,
+    } = fields;
     let count = kind.hash_count(layout.f, layout.k);
-    let (hashes, rest) = hashes_of(alloc, count, whole, rest)?;
-    let record = Record {
+    let size = 32 * count as usize;
+    if rest.len() < size {
+        return Err(RecordFault::Short(whole));
+    }
+    if rest.len() > size {
+        return Err(RecordFault::Extra(whole - (rest.len() - size)));
+    }
+    let hashes = hashes_of(alloc, count, rest)?;
+    Ok(Record {
         stamp: stamp.known(),
         kind,
         size: layout.size,
@@ -213,50 +259,17 @@ fn value_of(
         k: layout.k,
         clouds: layout.clouds,
         hashes,
-    };
-    Ok((record, rest))
-}
-
-/// What stands behind the stamp, and the bytes behind that.
-#[tactic(auto, unfolding(crate::specs::Reading::body_at))]
-fn body_of(
-    alloc: Global,
-    kind: Kind,
-    stamp: Stamp,
-    whole: usize,
-    bytes: &[u8],
-) -> Result<(Record, &[u8]), RecordFault>
-    requires { IsWritten stamp }
-    ensures { Gives (λ x. (x.0, x.1.now)) result (body_at kind stamp whole bytes.now) }
-{
-    match kind {
-        Kind::Tomb => Ok((Record::tomb(alloc, stamp)?, bytes)),
-        Kind::Whole => value_of(alloc, Kind::Whole, stamp, whole, bytes),
-        Kind::Coded => value_of(alloc, Kind::Coded, stamp, whole, bytes),
-    }
-}
-
-/// The record at the front, and the bytes behind it.
-#[tactic(auto, unfolding(crate::specs::Reading::record_at))]
-fn front_of(alloc: Global, whole: usize, bytes: &[u8]) -> Result<(Record, &[u8]), RecordFault>
-    ensures { Gives (λ x. (x.0, x.1.now)) result (record_at whole bytes.now) }
-{
-    let rest = version_of(whole, bytes)?;
-    let (kind, rest) = kind_of(whole, rest)?;
-    match stamp_of(whole, rest) {
-        Ok((stamp, rest)) => body_of(alloc, kind, stamp, whole, rest),
-        Err(fault) => Err(fault),
-    }
+    })
 }
 
 /// The record that all of the bytes spell.
 #[tactic(auto, unfolding(crate::specs::Reading::record_of))]
 fn whole_of(alloc: Global, bytes: &[u8]) -> Result<Record, RecordFault>
-    ensures { Gives (λ r. r) result (record_of bytes.now) }
+    ensures value { Gives (λ r. r) result (record_of bytes.now) }
+    ensures refused { IfErr (record_of bytes.now) (λ fault. result ≡ Err fault) }
 {
-    match front_of(alloc, bytes.len(), bytes) {
-        Ok((record, [])) => Ok(record),
-        Ok((_, rest)) => Err(RecordFault::Extra(bytes.len() - rest.len())),
+    match fields_of(bytes.len(), bytes) {
+        Ok((fields, rest)) => record_of_fields(alloc, fields, bytes.len(), rest),
         Err(fault) => Err(fault),
     }
 }

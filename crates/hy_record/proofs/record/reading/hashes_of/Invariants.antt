@@ -1,12 +1,11 @@
-use Rattle.std.proofs.Common.{◌≡◌, ◌-◌, length, All}
-use Rattle.hy_record.specs.Hash.{IsHash}
-use Rattle.hy_record.specs.Reading.{hashes_at}
-use Rattle.hy_base.proofs.Results.{with_items}
+use Rattle.std.proofs.Common.{◌≡◌, ◌*◌, take, length, All}
+use Rattle.std.specs.List.{concat}
+use Rattle.hy_record.specs.Hash.{HASH_SIZE, IsHash}
 use Rattle.hy_record.proofs.record.reading.hashes_of.Given as goal
 
-abbrev pub invariant-loop : goal.invariant-loop
-invariant-loop l = record {
-  read : with_items l.hashes.items (hashes_at (l.count - l.counter) l.whole l.rest) ≡ hashes_at l.count l.whole l.bytes;
-  count : length l.hashes.items ≡ l.counter;
+abbrev pub invariant-loop-i : goal.invariant-loop-i
+invariant-loop-i l = record {
+  read : concat l.hashes.items ≡ take (HASH_SIZE * l.i) l.bytes;
+  count : length l.hashes.items ≡ l.i;
   sizes : All IsHash l.hashes.items;
 }
