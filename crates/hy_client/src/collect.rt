@@ -15,7 +15,7 @@ ghost use Rattle.hy_record.specs.declared.message.MetaAsk.TheVariants as asks;
 ghost use Rattle.hy_record.specs.declared.turn.Out.TheVariants as outs;
 
 use crate::deletion::Deletion;
-use hy_base::NoMemory;
+use hy_base::{NoMemory, cloud_count, quorum_size};
 use hy_operation::{Issuer, Progress};
 use hy_protocol::is_for;
 use hy_record::{CloudReply, CloudSay, Cue, Key, MetaSay, Out, Phase, Reply, Stamps, Turn};
@@ -72,8 +72,8 @@ impl CollectOp {
         let sends = vec![in alloc; issuer.olds()]?;
         let collect = CollectOp {
             issuer,
-            clouds: 2 * f + k,
-            enough: f + k,
+            clouds: cloud_count(f, k),
+            enough: quorum_size(f, k),
             state: State::Asking,
         };
         Ok((collect, sends))
@@ -81,8 +81,10 @@ impl CollectOp {
 
     /// Handles an input: what is sent, and the reply where it comes now.
     pub fn step(&mut self, alloc: Global, cue: &Cue) -> Result<Turn, NoMemory>
-        ensures turn { IfOk result (λ turn. (plan : CollectPlan) (inputs : List Cue) → StandsForInputs plan self.old inputs → turn ≡ collect_turn plan (cue.now ∷ inputs)) }
-        ensures ok { OnOk result ((plan : CollectPlan) (inputs : List Cue) → StandsForInputs plan self.old inputs → StandsForInputs plan self.new (cue.now ∷ inputs)) }
+        ensures turn { IfOk result (λ turn. (plan : CollectPlan) (inputs : List Cue) → StandsForInputs plan self.old inputs
+            → turn ≡ collect_turn plan (cue.now ∷ inputs)) }
+        ensures ok { OnOk result ((plan : CollectPlan) (inputs : List Cue) → StandsForInputs plan self.old inputs
+            → StandsForInputs plan self.new (cue.now ∷ inputs)) }
         ensures err { OnErr result ((plan : CollectPlan) (inputs : List Cue) → StandsForInputs plan self.old inputs → StandsForInputs plan self.new inputs) }
     {
         if is_for(cue, self.issuer.client, self.issuer.op, &self.issuer.key) {

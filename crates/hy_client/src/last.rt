@@ -29,8 +29,10 @@ impl Last {
         op: u32,
         cue: &Cue,
     ) -> Result<Turn, NoMemory>
-        ensures turn { IfOk result (λ turn. (task : Task) (inputs : List Cue) → task.client ≡ client → task.op ≡ op → Continues task self.old inputs → turn ≡ taken_turn task inputs cue.now) }
-        ensures ok { OnOk result ((task : Task) (inputs : List Cue) → task.client ≡ client → task.op ≡ op → Continues task self.old inputs → Continues task self.new (taken_inputs task inputs cue.now)) }
+        ensures turn { IfOk result (λ turn. (task : Task) (inputs : List Cue) → task.client ≡ client → task.op ≡ op → Continues task self.old inputs
+            → turn ≡ taken_turn task inputs cue.now) }
+        ensures ok { OnOk result ((task : Task) (inputs : List Cue) → task.client ≡ client → task.op ≡ op → Continues task self.old inputs
+            → Continues task self.new (taken_inputs task inputs cue.now)) }
         ensures err { OnErr result ((task : Task) (inputs : List Cue) → Continues task self.old inputs → Continues task self.new inputs) }
     {
         if self.replied {

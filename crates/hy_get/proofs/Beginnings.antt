@@ -1,5 +1,5 @@
 -- A get at a record that it follows from now on.
-use Rattle.std.proofs.Common.{◌≡◌, ℕ, ◌+◌, ◌<◌, Bool, true, false, List, [], ◌∷◌, length, Option, Some, None, refl, sym, ap, subst, ◌∙◌, inl, inr, arith}
+use Rattle.std.proofs.Common.{◌≡◌, ℕ, ◌+◌, ◌<◌, Bool, true, false, List, [], ◌∷◌, length, Option, Some, None, refl, sym, ap, subst, ◌∙◌, arith}
 use Rattle.std.specs.Prelude.{◌&&◌, not, nat_lt, min, filter, is_some, IsTrue, if◌then◌else◌}
 use Rattle.std.proofs.lemmas.Bool.{eqb-true, false≢true}
 use Rattle.std.proofs.lemmas.Bool.Decides.{nat_tests}
@@ -15,13 +15,10 @@ use Rattle.hy_record.specs.declared.turn.Out.{Out}
 use Rattle.hy_record.specs.declared.turn.Turn.{Turn}
 use Rattle.hy_record.specs.Record.{RecordValue, IsRecord, is_part_count, is_tombstone}
 use Rattle.hy_record.specs.Clouds.{clouds_of}
-use Rattle.hy_meta.specs.Service.{stamp_of_record}
 use Rattle.hy_code.specs.declared.pick.Pick.{Pick}
 use Rattle.hy_protocol.specs.declared.plan.GetPlan.{GetPlan}
-use Rattle.hy_protocol.specs.Read.{Version, version_of, valid_picks, failed_clouds, timeouts, has_fired, failed_attempts, answer_for, read_reply, read_sends, first_gets, sends_to_version, is_refresh, refresh_count}
-use Rattle.hy_protocol.specs.Progress.{read_phase, version_progress}
-use Rattle.hy_protocol.specs.Turns.{own_turn}
-use Rattle.hy_operation.specs.declared.progress.Progress as kept
+use Rattle.hy_protocol.specs.Read.{Version, version_of, valid_picks, failed_clouds, timeouts, has_fired, failed_attempts, answer_for, read_reply, first_gets, sends_to_version, is_refresh, refresh_count}
+use Rattle.hy_protocol.specs.Progress.{version_progress}
 use Rattle.hy_operation.specs.Progress.{Tells}
 use Rattle.hy_get.specs.declared.fetch.Fetch.{Fetch}
 use Rattle.hy_get.specs.declared.get.GetOp.{GetOp}

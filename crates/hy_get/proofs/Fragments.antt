@@ -1,9 +1,9 @@
 -- The valid fragments of a version at one more input.
-use Rattle.std.proofs.Common.{◌≡◌, ◌≢◌, ℕ, zero, suc, ◌+◌, ◌≤◌, ◌<◌, Bool, true, false, List, [], ◌∷◌, length, Option, Some, None, refl, sym, ap, ◌∙◌, inl, inr, arith}
-use Rattle.std.specs.Prelude.{◌==◌, ◌⊎◌, ◌&&◌, not, nat_lt, insert, remove, is_some, if◌then◌else◌}
+use Rattle.std.proofs.Common.{◌≡◌, ◌≢◌, ℕ, zero, suc, ◌+◌, ◌≤◌, Bool, true, false, List, [], ◌∷◌, length, Option, Some, None, refl, sym, ap, ◌∙◌, inl, inr, arith}
+use Rattle.std.specs.Prelude.{◌==◌, nat_lt, insert, remove, is_some, if◌then◌else◌}
 use Rattle.std.specs.Option.{option_or}
 use Rattle.std.specs.List.{list_any, prefix_len}
-use Rattle.std.proofs.lemmas.Bool.{eqb-true, eqb-false, ltb-true, false≢true}
+use Rattle.std.proofs.lemmas.Bool.{eqb-true, eqb-false, false≢true}
 use Rattle.std.proofs.lemmas.Bool.Decides.{nat_tests}
 use Rattle.hy_meta.proofs.Rising.{cases_bool}
 use Rattle.hy_code.specs.declared.pick.Pick.{Pick}
@@ -13,8 +13,8 @@ use Rattle.hy_record.specs.declared.cloud.CloudSay.TheVariants.{Stored, Conflict
 use Rattle.hy_record.specs.declared.turn.Cue.{Cue}
 use Rattle.hy_record.specs.declared.turn.Cue.TheVariants as cues
 use Rattle.hy_record.specs.Stamp.{stamp_eq}
-use Rattle.hy_base.specs.Shape.{cloud_count, fragment_size}
-use Rattle.hy_record.specs.Record.{RecordValue, hash_of, is_hash, is_tombstone, is_valid_fragment}
+use Rattle.hy_base.specs.Shape.{cloud_count}
+use Rattle.hy_record.specs.Record.{RecordValue, is_valid_fragment}
 use Rattle.hy_record.proofs.Validity.{test-valid}
 use Rattle.hy_protocol.specs.Read.{is_valid_body, valid_bytes, valid_in, first_valid, valid_picks}
 use Rattle.hy_get.specs.Fetching.{IsValidBody}

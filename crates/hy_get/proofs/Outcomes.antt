@@ -13,7 +13,6 @@ use Rattle.hy_protocol.specs.declared.plan.GetPlan.{GetPlan}
 use Rattle.hy_protocol.specs.Inputs.{addresses}
 use Rattle.hy_protocol.specs.Read.{asks_record, read_sends, read_reply}
 use Rattle.hy_protocol.specs.Turns.{quiet_turn, own_turn, get_turn}
-use Rattle.hy_operation.specs.declared.issuer.Issuer.{Issuer}
 use Rattle.hy_operation.proofs.Inputs.{inputs-own, inputs-foreign, turn-own, turn-foreign}
 use Rattle.hy_get.specs.declared.fetch.Fetch.{Fetch}
 use Rattle.hy_get.specs.declared.get.GetOp.{GetOp}

@@ -1,12 +1,10 @@
 -- The phase of a get that follows a record.
-use Rattle.std.proofs.Common.{◌≡◌, ℕ, ◌+◌, ◌≤◌, ◌<◌, Bool, true, false, List, length, refl, sym, ap, ◌∙◌, inl, inr, arith}
-use Rattle.std.specs.Prelude.{nat_lt, min, if◌then◌else◌}
+use Rattle.std.proofs.Common.{◌≡◌, ℕ, ◌+◌, ◌≤◌, ◌<◌, true, false, List, length, refl, sym, ap, ◌∙◌, inl, inr, arith}
+use Rattle.std.specs.Prelude.{nat_lt, min}
 use Rattle.std.proofs.lemmas.Bool.{cases_lt}
 use Rattle.std.proofs.lemmas.Bool.Decides.{nat_tests}
-use Rattle.hy_record.specs.declared.action.Phase.{Phase}
 use Rattle.hy_record.specs.declared.action.Phase.TheVariants as phases
 use Rattle.hy_record.specs.declared.turn.Cue.{Cue}
-use Rattle.hy_record.specs.Record.{RecordValue}
 use Rattle.hy_protocol.specs.Read.{failed_clouds, has_fired, timeouts, failed_attempts}
 use Rattle.hy_protocol.specs.Progress.{read_phase}
 use Rattle.hy_get.specs.declared.fetch.Fetch.{Fetch}

@@ -1,10 +1,10 @@
 -- What a get replies, and when.
-use Rattle.std.proofs.Common.{◌≡◌, ℕ, zero, suc, ◌+◌, ◌≤◌, ◌<◌, Bool, true, false, List, [], ◌∷◌, ◌++◌, length, take, Option, Some, None, refl, sym, ap, subst, ◌∙◌, inl, inr, arith}
-use Rattle.std.specs.Prelude.{◌==◌, ◌⊎◌, ◌&&◌, nat_le, All, is_some, if◌then◌else◌}
+use Rattle.std.proofs.Common.{◌≡◌, ℕ, zero, suc, ◌+◌, ◌≤◌, ◌<◌, true, false, List, [], ◌∷◌, ◌++◌, length, take, Option, Some, None, refl, sym, ap, subst, ◌∙◌, inl, inr, arith}
+use Rattle.std.specs.Prelude.{◌==◌, ◌&&◌, nat_le, All}
 use Rattle.std.specs.List.{cons_option}
 use Rattle.std.specs.Option.{option_or, option_map}
 use Rattle.std.proofs.lemmas.Option.{none-some}
-use Rattle.std.proofs.lemmas.Bool.{eqb-true, leb-true, leb-false, le-leb, false≢true}
+use Rattle.std.proofs.lemmas.Bool.{leb-true, leb-false}
 use Rattle.std.proofs.lemmas.Bool.Decides.{nat_tests}
 use Rattle.std.proofs.lemmas.List.Elements.{All-nil, All-cons}
 use Rattle.hy_meta.proofs.Rising.{cases_bool}
@@ -24,12 +24,12 @@ use Rattle.hy_record.specs.Record.{RecordValue, is_tombstone, is_valid_fragment,
 use Rattle.hy_record.proofs.Validity.{test-valid}
 use Rattle.hy_protocol.specs.declared.plan.GetPlan.{GetPlan}
 use Rattle.hy_protocol.specs.Inputs.{has_of}
-use Rattle.hy_protocol.specs.Read.{Version, version_of, newer_version, valid_bytes, valid_in, first_valid, valid_picks, answer_for, answer_of, read_reply, read_sends}
+use Rattle.hy_protocol.specs.Read.{Version, version_of, newer_version, valid_bytes, valid_in, first_valid, valid_picks, answer_for, answer_of, read_reply}
 use Rattle.hy_protocol.specs.Turns.{get_turn}
 use Rattle.hy_get.specs.Laws.{follows, value_reply, HasEnough, IsRebuilt}
 use Rattle.hy_get.specs.Standing.{own_inputs}
 use Rattle.hy_get.proofs.Picks.{picks_by}
-use Rattle.hy_get.proofs.Standing.{version-step, turn-answers}
+use Rattle.hy_get.proofs.Standing.{turn-answers}
 use Rattle.hy_get.proofs.Outcomes.{own-turn}
 
 -- ---- too few fragments, and enough

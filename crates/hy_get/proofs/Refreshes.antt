@@ -1,6 +1,6 @@
 -- How often a get asks for its record again.
-use Rattle.std.proofs.Common.{◌≡◌, ℕ, ◌+◌, ◌≤◌, Bool, true, false, List, [], ◌∷◌, Option, Some, None, refl, sym, ap, subst, ◌∙◌, inl, inr, arith}
-use Rattle.std.specs.Prelude.{◌⊎◌, ◌&&◌, ◌||◌, not, is_some, if◌then◌else◌}
+use Rattle.std.proofs.Common.{◌≡◌, ℕ, ◌+◌, ◌≤◌, Bool, true, false, List, [], ◌∷◌, Option, Some, None, refl, inl, inr, arith}
+use Rattle.std.specs.Prelude.{◌&&◌, ◌||◌, not, is_some, if◌then◌else◌}
 use Rattle.hy_meta.proofs.Rising.{cases_bool}
 use Rattle.hy_meta.specs.Service.{stamp_of_record}
 use Rattle.hy_record.specs.declared.turn.Cue.{Cue}
@@ -11,7 +11,6 @@ use Rattle.hy_record.specs.Record.{RecordValue}
 use Rattle.hy_protocol.specs.Inputs.{has_of, is_fired}
 use Rattle.hy_protocol.specs.Read.{Version, version_of, newer_version, has_fired, read_reply, supersedes, is_refresh, refresh_count}
 use Rattle.hy_get.specs.Laws.{refreshes_since, is_above, version_count}
-use Rattle.hy_get.proofs.Standing.{version-step, rounds-step}
 
 -- ---- since the version was read
 

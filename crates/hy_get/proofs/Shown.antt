@@ -1,12 +1,12 @@
 -- How far a get is, by what it awaits.
-use Rattle.std.proofs.Common.{◌≡◌, ℕ, ◌≤◌, List, [], ◌∷◌, length, Option, Some, None, refl, sym, ap, subst, ◌∙◌, arith}
+use Rattle.std.proofs.Common.{◌≡◌, ◌≤◌, List, [], ◌∷◌, length, Option, Some, None, refl, sym, ap, subst, ◌∙◌, arith}
 use Rattle.std.specs.Option.{option_or}
 use Rattle.std.proofs.lemmas.Option.{none-some}
 use Rattle.hy_record.specs.declared.action.Phase.TheVariants as phases
 use Rattle.hy_record.specs.declared.action.Reply.{Reply}
 use Rattle.hy_record.specs.declared.turn.Cue.{Cue}
 use Rattle.hy_protocol.specs.declared.plan.GetPlan.{GetPlan}
-use Rattle.hy_protocol.specs.Read.{Version, version_of, answer_of, read_reply}
+use Rattle.hy_protocol.specs.Read.{version_of, answer_of, read_reply}
 use Rattle.hy_protocol.specs.Progress.{progress_of_version, version_progress, read_progress}
 use Rattle.hy_protocol.specs.Turns.{settled_progress, get_progress}
 use Rattle.hy_operation.specs.declared.progress.Progress as kept

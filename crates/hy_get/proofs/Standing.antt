@@ -1,24 +1,22 @@
 -- One more input of a get, by what it awaits.
 use Rattle.std.proofs.Common.{◌≡◌, ℕ, ◌+◌, ◌<◌, Bool, true, false, List, [], ◌∷◌, length, Option, Some, None, refl, sym, ap, subst, ◌∙◌, inl, inr, arith}
-use Rattle.std.specs.Prelude.{◌⊎◌, ◌&&◌, not, nat_le, min, is_some, if◌then◌else◌}
+use Rattle.std.specs.Prelude.{◌&&◌, not, nat_le, min, is_some, if◌then◌else◌}
 use Rattle.std.specs.Option.{option_or}
 use Rattle.std.proofs.lemmas.Bool.{false≢true}
 use Rattle.std.proofs.lemmas.Bool.Decides.{nat_tests}
 use Rattle.hy_meta.proofs.Rising.{cases_bool}
-use Rattle.hy_meta.specs.Service.{stamp_of_record}
 use Rattle.hy_code.specs.declared.pick.Pick.{Pick}
 use Rattle.hy_record.specs.declared.action.Reply.{Reply}
 use Rattle.hy_record.specs.declared.turn.Cue.{Cue}
 use Rattle.hy_record.specs.declared.turn.Out.{Out}
 use Rattle.hy_record.specs.declared.turn.Turn.{Turn}
-use Rattle.hy_record.specs.Stamp.{stamp_lt}
 use Rattle.hy_record.specs.Record.{RecordValue, is_tombstone}
 use Rattle.hy_record.proofs.Order.{stamp_lt-same}
 use Rattle.hy_protocol.specs.declared.plan.GetPlan.{GetPlan}
 use Rattle.hy_protocol.specs.Inputs.{has_of, is_fired, is_tick}
 use Rattle.hy_protocol.specs.Read.{Version, version_of, newer_version, valid_picks, has_fired, answer_for, answer_of, read_reply, read_sends, asks_record, sends_since, sends_to_version, supersedes, is_refresh, refresh_count}
 use Rattle.hy_protocol.specs.Progress.{Progress, progress_of_version, version_progress, read_progress}
-use Rattle.hy_protocol.specs.Turns.{quiet_turn, own_turn, settled_progress}
+use Rattle.hy_protocol.specs.Turns.{quiet_turn, own_turn}
 use Rattle.hy_operation.specs.declared.progress.Progress as kept
 use Rattle.hy_operation.specs.Progress.{Tells}
 use Rattle.hy_operation.proofs.Inputs.{turn-before-reply, turn-after-reply, progress-before-reply, progress-after-reply}
@@ -26,7 +24,7 @@ use Rattle.hy_get.specs.declared.fetch.Fetch.{Fetch}
 use Rattle.hy_get.specs.declared.get.GetOp.{GetOp}
 use Rattle.hy_get.specs.declared.get.State.{State}
 use Rattle.hy_get.specs.declared.get.State.TheVariants.{Reading, Fetching, Replied}
-use Rattle.hy_get.specs.Fetching.{Follows, Awaits, DoesSince}
+use Rattle.hy_get.specs.Fetching.{Awaits, DoesSince}
 use Rattle.hy_get.specs.Standing.{IsReading, IsFetching, IsReplied, StandsAt, StandsForOwn, Does}
 
 -- ---- the definitions at one more input

@@ -1,5 +1,5 @@
 -- What a get keeps of the inputs since it read its record.
-use Rattle.std.specs.Prelude.{◌≡◌, ℕ, ◌+◌, ◌-◌, ◌<◌, ◌≤◌, Bool, true, not, min, nat_lt, nat_le, ◌&&◌, List, [], ◌∷◌, length, filter, Option, Some, slice_get, Result, MatchResult, if◌then◌else◌}
+use Rattle.std.specs.Prelude.{◌≡◌, ℕ, ◌+◌, ◌-◌, ◌<◌, ◌≤◌, Bool, true, not, min, nat_lt, nat_le, ◌&&◌, List, [], ◌∷◌, length, filter, Some, slice_get, Result, MatchResult, if◌then◌else◌}
 use Rattle.std.specs.List.{list_any}
 use Rattle.std.specs.Global.{Vec}
 use Rattle.hy_base.specs.declared.failure.NoMemory.{NoMemory}

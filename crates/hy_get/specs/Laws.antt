@@ -1,6 +1,5 @@
 -- What the laws of a get speak of. Inputs are those for the get, the newest first, where nothing else is said.
-use Rattle.std.specs.Prelude.{◌≡◌, ℕ, ◌+◌, ◌≤◌, Bool, true, false, List, [], ◌∷◌, ◌++◌, length, take, filter, All, Option, Some, None, is_some, if◌then◌else◌}
-use Rattle.hy_code.specs.declared.pick.Pick.{Pick}
+use Rattle.std.specs.Prelude.{◌≡◌, ℕ, ◌+◌, ◌≤◌, Bool, true, false, List, [], ◌∷◌, ◌++◌, length, take, filter, All, Option, Some, None, if◌then◌else◌}
 use Rattle.hy_code.specs.Fragments.{rebuilt_value}
 use Rattle.hy_record.specs.declared.action.Reply.{Reply}
 use Rattle.hy_record.specs.declared.action.Reply.TheVariants as told

@@ -1,5 +1,5 @@
 -- What a get keeps stands for the inputs that it was handed.
-use Rattle.std.specs.Prelude.{◌≡◌, ℕ, ◌<◌, Bool, true, false, min, List, [], ◌∷◌, Option, Some, None, is_some, Result, MatchResult, if◌then◌else◌}
+use Rattle.std.specs.Prelude.{◌≡◌, Bool, true, false, min, List, [], ◌∷◌, Option, Some, None, is_some, Result, MatchResult, if◌then◌else◌}
 use Rattle.hy_base.specs.declared.failure.NoMemory.{NoMemory}
 use Rattle.hy_record.specs.declared.action.Reply.{Reply}
 use Rattle.hy_record.specs.declared.turn.Cue.{Cue}

@@ -75,7 +75,13 @@ impl Issuer {
 
     /// A request to the cloud about the object of this timestamp.
     pub fn wish(&self, cloud: u8, stamp: Stamp, act: CloudAct) -> Out
-        ensures { result ≡ outs.Cloud (record { client = self.now.client; op = self.now.op; cloud = cloud; wish = record { key = self.now.key; stamp = stamp; act = act } }) }
+        ensures { let i = self.now in
+            result ≡ outs.Cloud (record {
+              client = i.client;
+              op = i.op;
+              cloud = cloud;
+              wish = record { key = i.key; stamp = stamp; act = act };
+            }) }
     {
         Out::Cloud(CloudAsk {
             client: self.client,

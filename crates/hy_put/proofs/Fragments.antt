@@ -16,7 +16,7 @@ use Rattle.hy_record.specs.declared.cloud.CloudAct.TheVariants as acts
 use Rattle.hy_protocol.specs.Write.{hashes_of}
 use Rattle.hy_operation.specs.declared.issuer.Issuer.{Issuer}
 use Rattle.hy_operation.proofs.Filters.{filter-passes, filter-skips}
-use Rattle.hy_put.specs.Contents.{puts_of}
+use Rattle.hy_put.specs.Contents.{put_to, puts_of}
 
 -- maps of what agrees on these numbers
 pub map-agrees : (f g : ℕ → List ℕ) (a n : ℕ) → ((i : ℕ) → i < a + n → f i ≡ g i) → map f (range_with_len a n) ≡ map g (range_with_len a n)
@@ -26,9 +26,6 @@ map-agrees f g a (suc n) same = ap (λ (x : List ℕ). x ∷ map f (range_with_l
 -- the fragment at a cloud's place
 pub fragment-at : (f : ℕ → List ℕ) (n i : ℕ) → i < n → slice_index_or (map f (range_with_len 0 n)) i [] ≡ f i
 fragment-at f n i within = get_or-map-range_with_len f 0 n i i [] within (zero-add i)
-
-abbrev put_to : Issuer → Timestamp → ℕ → List ℕ → Out
-put_to issuer stamp cloud bytes = outs.Cloud (record { client = issuer.client; op = issuer.op; cloud = cloud; wish = record { key = issuer.key; stamp = stamp; act = acts.Put bytes } })
 
 -- one more cloud to send its fragment
 pub puts-more : (issuer : Issuer) (fragments : List (List ℕ)) (stamp : Timestamp) (p : ℕ → Bool) (i : ℕ) (before after : List Out) (out : Out) (bytes : List ℕ) → p i ≡ true → before ≡ puts_of issuer fragments stamp (filter p (range_with_len 0 i)) → bytes ≡ slice_index_or fragments i []

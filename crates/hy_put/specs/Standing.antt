@@ -86,4 +86,6 @@ pub record Does (plan : PutPlan) (own : List Cue) (cue : Cue) (turn : Turn) (aft
 
 -- at an input that is for it, a put does what the protocol says, or memory ran out and it stands for the same inputs
 abbrev pub Takes : PutOp → PutOp → Cue → Result Turn NoMemory → Type 0
-Takes old new cue result = (plan : PutPlan) (own : List Cue) → StandsForOwn plan old own → MatchResult result (λ turn. Does plan own cue turn new) (λ _. StandsForOwn plan new own)
+Takes old new cue result =
+    (plan : PutPlan) (own : List Cue) → StandsForOwn plan old own
+    → MatchResult result (λ turn. Does plan own cue turn new) (λ _. StandsForOwn plan new own)

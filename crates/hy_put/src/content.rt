@@ -1,13 +1,13 @@
 //! What a put stores: the fragments of its value, and their hashes.
 
-ghost use Rattle.std.specs.Prelude.{◌≡◌, ◌∷◌, [], ◌≤◌, IfOk, IfErr, OnOk, IsTrue, None, length, map, filter, not, slice_index_or};
+ghost use Rattle.std.specs.Prelude.{◌≡◌, ◌∷◌, [], ◌≤◌, IfOk, IfErr, OnOk, IsTrue, None, length, map, slice_index_or};
 ghost use Rattle.std.specs.List.{range_with_len};
 ghost use Rattle.hy_base.specs.declared.limits.TheConstants.{MAX_VALUE};
 ghost use Rattle.sha2.specs.Sha256.{sha256};
 ghost use Rattle.hy_record.specs.Stamp.{IsWritten};
 ghost use Rattle.hy_base.specs.Shape.{IsShape, cloud_count, quorum_size};
 ghost use Rattle.hy_record.specs.Record.{kind_of_parts, hash_count, is_cloud_list, record_of_value};
-ghost use Rattle.hy_operation.specs.Marks.{is_marked};
+ghost use Rattle.hy_operation.specs.Marks.{unmarked_below};
 
 use crate::fault::StartFault;
 use hy_base::{Blob, MAX_VALUE, NoMemory, cloud_count, quorum_size};
@@ -38,7 +38,8 @@ impl Content {
     /// The content of the plan's value, if that is not too large; none for a delete.
     pub(crate) fn of(alloc: Global, plan: &PutPlan) -> Result<Option<Content>, StartFault>
         requires { IsShape plan.now.f plan.now.k }
-        ensures carries { IfOk result (λ content. CarriesValue plan.now.f plan.now.k plan.now.value content) }
+        ensures carries { let plan = plan.now in
+            IfOk result (λ content. CarriesValue plan.f plan.k plan.value content) }
         ensures fits { OnOk result (oversize plan.now ≡ None) }
         ensures fault { IfErr result (λ fault. size_told fault ≡ oversize plan.now) }
     {
@@ -101,7 +102,8 @@ impl Content {
         acked: &Marks,
     ) -> Result<Vec<Out>, NoMemory>
         requires { n ≤ cloud_count self.now.f self.now.k }
-        ensures { IfOk result (λ sends. sends.items ≡ puts_of issuer.now self.now.fragments stamp (filter (λ cloud. not (is_marked acked.now cloud)) (range_with_len 0 n))) }
+        ensures { IfOk result (λ sends.
+            sends.items ≡ puts_of issuer.now self.now.fragments stamp (unmarked_below acked.now n)) }
     {
         let mut sends = Vec::new(alloc);
         for cloud in 0..n {
@@ -122,7 +124,8 @@ impl Content {
     ) -> Result<Record, NoMemory>
         requires written { IsWritten stamp }
         requires quorum { IsTrue (is_cloud_list self.now.f self.now.k clouds) }
-        ensures { IfOk result (λ r. r ≡ record_of_value stamp self.now.size self.now.f self.now.k clouds self.now.hashes.items) }
+        ensures { let c = self.now in
+            IfOk result (λ r. r ≡ record_of_value stamp c.size c.f c.k clouds c.hashes.items) }
     {
         Record::value(
             alloc,
@@ -148,7 +151,8 @@ fn whole_hash(alloc: Global, value: &[u8]) -> Result<Vec<Hash>, NoMemory>
 /// The hash of each fragment.
 fn fragment_hashes(alloc: Global, fragments: &Fragments, n: u8) -> Result<Vec<Hash>, NoMemory>
     requires { length fragments.now ≡ n }
-    ensures { IfOk result (λ hashes. hashes.items ≡ map (λ cloud. sha256 (slice_index_or fragments.now cloud [])) (range_with_len 0 n)) }
+    ensures { IfOk result (λ hashes. hashes.items ≡
+        map (λ cloud. sha256 (slice_index_or fragments.now cloud [])) (range_with_len 0 n)) }
 {
     let mut hashes = Vec::new(alloc);
     for cloud in 0..n {

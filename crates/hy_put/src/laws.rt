@@ -13,10 +13,15 @@ ghost use Rattle.hy_put.specs.Updates.{IsRecordOfPut};
 
 /// An update that a put sends lists exactly a quorum of clouds, each of which acknowledged this write's timestamp, and its hashes are those of the fragments of the put's value.
 pub fn updates_list_those_that_acknowledged()
-    ensures { (plan : PutPlan) (inputs : List Cue) (value : List ℕ) (r : RecordValue) → IsShape plan.f plan.k → plan.value ≡ Some value → Contains (put_turn plan inputs).sends (outs.Meta (asks.Update plan.client plan.op plan.key r)) → IsRecordOfPut plan value (inputs_for plan.client plan.op plan.key inputs) r }
+    ensures { (plan : PutPlan) (inputs : List Cue) (value : List ℕ) (r : RecordValue) →
+        IsShape plan.f plan.k → plan.value ≡ Some value →
+        Contains (put_turn plan inputs).sends (outs.Meta (asks.Update plan.client plan.op plan.key r)) →
+        IsRecordOfPut plan value (inputs_for plan.client plan.op plan.key inputs) r }
 {}
 
 /// After its reply a put sends and replies nothing, whatever it is handed.
 pub fn nothing_follows_the_reply()
-    ensures { (plan : PutPlan) (cue : Cue) (later before : List Cue) → is_some (put_turn plan before).reply ≡ true → put_turn plan (cue ∷ later ++ before) ≡ quiet_turn }
+    ensures { (plan : PutPlan) (cue : Cue) (later before : List Cue) →
+        is_some (put_turn plan before).reply ≡ true →
+        put_turn plan (cue ∷ later ++ before) ≡ quiet_turn }
 {}

@@ -59,9 +59,12 @@ impl PutOp {
 
     /// Takes an input: what is sent, and the reply where it comes now.
     pub fn step(&mut self, alloc: Global, cue: &Cue) -> Result<Turn, NoMemory>
-        ensures turn { IfOk result (λ turn. (plan : PutPlan) (inputs : List Cue) → StandsForInputs plan self.old inputs → turn ≡ put_turn plan (cue.now ∷ inputs)) }
-        ensures ok { OnOk result ((plan : PutPlan) (inputs : List Cue) → StandsForInputs plan self.old inputs → StandsForInputs plan self.new (cue.now ∷ inputs)) }
-        ensures err { OnErr result ((plan : PutPlan) (inputs : List Cue) → StandsForInputs plan self.old inputs → StandsForInputs plan self.new inputs) }
+        ensures turn { IfOk result (λ turn. (plan : PutPlan) (inputs : List Cue) →
+            StandsForInputs plan self.old inputs → turn ≡ put_turn plan (cue.now ∷ inputs)) }
+        ensures ok { OnOk result ((plan : PutPlan) (inputs : List Cue) →
+            StandsForInputs plan self.old inputs → StandsForInputs plan self.new (cue.now ∷ inputs)) }
+        ensures err { OnErr result ((plan : PutPlan) (inputs : List Cue) →
+            StandsForInputs plan self.old inputs → StandsForInputs plan self.new inputs) }
     {
         if is_for(cue, self.issuer.client, self.issuer.op, &self.issuer.key) {
             self.take(alloc, cue)
@@ -72,28 +75,32 @@ impl PutOp {
 
     /// What it awaits; from its reply on, what it awaited then.
     pub fn phase(&self) -> Phase
-        ensures { (plan : PutPlan) (inputs : List Cue) → StandsForInputs plan self.now inputs → result ≡ (put_progress plan inputs).phase }
+        ensures { (plan : PutPlan) (inputs : List Cue) →
+            StandsForInputs plan self.now inputs → result ≡ (put_progress plan inputs).phase }
     {
         self.progress().phase
     }
 
     /// How much it has of what it awaits.
     pub fn have(&self) -> u32
-        ensures { (plan : PutPlan) (inputs : List Cue) → StandsForInputs plan self.now inputs → result ≡ (put_progress plan inputs).have }
+        ensures { (plan : PutPlan) (inputs : List Cue) →
+            StandsForInputs plan self.now inputs → result ≡ (put_progress plan inputs).have }
     {
         self.progress().have
     }
 
     /// How much it awaits in all.
     pub fn need(&self) -> u32
-        ensures { (plan : PutPlan) (inputs : List Cue) → StandsForInputs plan self.now inputs → result ≡ (put_progress plan inputs).need }
+        ensures { (plan : PutPlan) (inputs : List Cue) →
+            StandsForInputs plan self.now inputs → result ≡ (put_progress plan inputs).need }
     {
         self.progress().need
     }
 
     /// How far the put is.
     fn progress(&self) -> Progress
-        ensures { (plan : PutPlan) (inputs : List Cue) → StandsForInputs plan self.now inputs → Tells result (put_progress plan inputs) }
+        ensures { (plan : PutPlan) (inputs : List Cue) →
+            StandsForInputs plan self.now inputs → Tells result (put_progress plan inputs) }
     {
         match &self.state {
             State::Reading => awaits_service(Phase::Read),

@@ -22,7 +22,7 @@ use Rattle.hy_record.specs.Record.{RecordValue, IsRecord, most_bytes, most_fault
 use Rattle.hy_record.specs.Spelling.{stamp_bytes, layout_bytes, kind_byte, value_bytes, record_bytes, SpellsKind, SpellsRecord}
 use Rattle.hy_base.specs.Results.{◌>>=◌}
 use Rattle.hy_base.proofs.Results.{bind_ok, ok_is}
-use Rattle.hy_record.specs.Reading.{fault_of, Gives, IsValueLayout, IsLayout, no_layout, field_at, stamp_at, value_layout_at, layout_at, hash_at, hashes_at, hashes_due, record_with, ended_at, version_at, kind_at, fields_at, record_of}
+use Rattle.hy_record.specs.Reading.{Gives, IsValueLayout, IsLayout, no_layout, field_at, stamp_at, value_layout_at, layout_at, hash_at, hashes_at, hashes_due, record_with, ended_at, version_at, kind_at, fields_at, record_of}
 use Rattle.hy_record.proofs.Numbers.{IsBytes, IsBytes-drop}
 use Rattle.hy_record.proofs.Fields.{guard_false, guard_true, Takes, Takes-then, field_takes, field_again}
 

@@ -25,17 +25,14 @@ use Rattle.hy_trace.specs.Points.{write_point}
 use Rattle.hy_trace.specs.Order.{Mark, is_behind, sorted_marks, is_done, is_done_return, write_mark, reply_mark, read_mark, mark_by, mark_of, marks_of, op_of, number_of, linearization_of}
 use Rattle.hy_protocol.specs.Progress.{progress_of}
 use Rattle.hy_trace.specs.History.{Return, return_of, Begun, begun_of, end_of, operation_of, history_of}
-use Rattle.hy_trace.specs.Points.{version_made}
 use Rattle.hy_trace.proofs.Growth.{start-same}
 use Rattle.hy_theorems.proofs.RealTime.{return-reply}
 use Rattle.hy_theorems.proofs.Apart.{replied-write}
-use Rattle.hy_theorems.proofs.Ordering.{all-sorted}
-use Rattle.hy_theorems.proofs.Points.{point-timely}
 use Rattle.hy_theorems.proofs.Values.{IsCollisionFree}
 use Rattle.hy_theorems.proofs.Told.{ArePutBytes}
 use Rattle.hy_theorems.proofs.Beginnings.{begun-are, IsAmongBegun, begun-in}
 use Rattle.hy_theorems.proofs.Marks.{IsMarkOf, IsWriteMark, mark-is, write-done}
-use Rattle.hy_theorems.proofs.Linear.{sorted-are, picked, real-time, reads-register}
+use Rattle.hy_theorems.proofs.Linear.{sorted-are, real-time, reads-register}
 use Rattle.hy_theorems.proofs.Placed.{orders-same}
 use Rattle.hy_theorems.proofs.Replies.{is_read_reply, write-replies, reply-fits, phase-fits}
 use Rattle.hy_theorems.proofs.Listing.{IsIn, in-contains, in-map, in-reverse, all-reverse, all-over, reverse-more, numbered-more, found-numbered, listed-all, in-picked, in-sorted, IsOther, AreOther, other-sorted, other-distinct}

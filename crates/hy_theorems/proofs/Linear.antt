@@ -1,53 +1,45 @@
 -- The operations of a key in order are a linearization of a register.
-use Rattle.std.proofs.Common.{◌≡◌, ℕ, ◌+◌, ◌≤◌, ◌<◌, Bool, true, false, cond, List, [], ◌∷◌, length, map, Option, Some, None, refl, sym, ap, subst, ◌∙◌, inl, inr, arith}
-use Rattle.std.specs.Prelude.{◌&&◌, ◌||◌, ◌==◌, ◌⊎◌}
-use Rattle.std.specs.Option.{option_map}
+use Rattle.std.proofs.Common.{◌≡◌, ℕ, true, List, [], ◌∷◌, map, Option, Some, None, refl, sym, ap, subst, ◌∙◌, inl, inr, arith}
+use Rattle.std.specs.Prelude.{◌||◌, ◌⊎◌}
 use Rattle.std.specs.List.{AllByRecursion, filter_map, cons_option}
-use Rattle.std.proofs.lemmas.Option.{none-some, same_Some, cond_some}
-use Rattle.std.proofs.lemmas.Bool.{false≢true, eqb-true, eq-eqb, ltb-true}
-use Rattle.std.proofs.lemmas.Bool.Decides.{nat_tests}
+use Rattle.std.proofs.lemmas.Bool.{false≢true}
 use Rattle.hy_record.specs.declared.action.Action.{Action}
-use Rattle.hy_record.specs.declared.action.Action.TheVariants as asked
 use Rattle.hy_record.specs.declared.action.Reply.{Reply}
 use Rattle.hy_record.specs.declared.action.Reply.TheVariants as told
-use Rattle.hy_record.specs.Stamp.{Timestamp, stamp_lt}
+use Rattle.hy_record.specs.Stamp.{Timestamp}
 use Rattle.hy_base.specs.Shape.{IsShape}
 use Rattle.hy_record.specs.Key.{key_eq}
-use Rattle.hy_record.proofs.Order.{key_eq-true, key_eq-same, stamp_le-lt}
-use Rattle.hy_meta.proofs.Rising.{cases_bool, both}
-use Rattle.hy_record.specs.declared.turn.Cue.{Cue}
-use Rattle.hy_protocol.specs.declared.plan.PutPlan.{PutPlan}
-use Rattle.hy_protocol.specs.Write.{own_stamp, stamp_upon, write_reply}
+use Rattle.hy_record.proofs.Order.{key_eq-same, stamp_le-lt}
+use Rattle.hy_meta.proofs.Rising.{cases_bool}
+use Rattle.hy_protocol.specs.Write.{own_stamp, write_reply}
 use Rattle.hy_protocol.specs.Read.{read_reply}
 use Rattle.hy_order.specs.declared.operation.End.{End}
 use Rattle.hy_order.specs.declared.operation.End.TheVariants.{Replied}
 use Rattle.hy_order.specs.declared.operation.Operation.{Operation}
-use Rattle.hy_order.specs.Linearization.{returned_before, register_after, TellsRegister, ReadsRegister, RespectsRealTime}
-use Rattle.hy_protocol.specs.Progress.{Progress, progress_of}
-use Rattle.hy_trace.specs.Points.{Point, read_point, write_point, version_made}
+use Rattle.hy_order.specs.Linearization.{register_after, TellsRegister, ReadsRegister, RespectsRealTime}
+use Rattle.hy_protocol.specs.Progress.{progress_of}
+use Rattle.hy_trace.specs.Points.{write_point}
 use Rattle.hy_trace.specs.Order.{Mark, is_behind, insert_mark, sorted_marks}
-use Rattle.hy_trace.specs.Deeds.{Params, Deed, Joined, Began, Handed, Served, Granted, Stopped, Nothing, Start, served, inputs_of, start_of, start_at}
+use Rattle.hy_trace.specs.Deeds.{Params, Deed, Start, served, inputs_of, start_of}
 use Rattle.hy_protocol.specs.Operations.{key_of, write_plan, replied}
 use Rattle.hy_trace.specs.Trace.{IsTrace}
 use Rattle.hy_trace.specs.Points.{was_applied}
-use Rattle.hy_theorems.specs.Writing.{IsWriting, write_action}
-use Rattle.hy_trace.specs.History.{Return, return_of, Begun, with_begun, begun_of, end_of, operation_of}
-use Rattle.hy_trace.specs.Order.{is_done, is_done_return, write_mark, reply_mark, read_mark, mark_by, mark_of, marks_of}
-use Rattle.hy_trace.proofs.Growth.{Le, le-trans, top, or-cases, start-keeps, start-same}
+use Rattle.hy_theorems.specs.Writing.{write_action}
+use Rattle.hy_trace.specs.History.{Return, return_of, Begun, begun_of, end_of, operation_of}
+use Rattle.hy_trace.specs.Order.{is_done_return, write_mark, mark_by, mark_of, marks_of}
+use Rattle.hy_trace.proofs.Growth.{top, start-same}
 use Rattle.hy_theorems.proofs.Writes.{update-own}
 use Rattle.hy_theorems.proofs.Replies.{is_read_reply}
-use Rattle.hy_theorems.proofs.Points.{point-timely}
-use Rattle.hy_theorems.proofs.Invariant.{IsCovered}
-use Rattle.hy_theorems.proofs.Apart.{own-above, own-has, replies-by, replied-write, stamps-differ}
+use Rattle.hy_theorems.proofs.Apart.{own-above, replied-write}
 use Rattle.hy_theorems.proofs.Values.{IsCollisionFree}
 use Rattle.hy_theorems.proofs.Told.{ArePutBytes, IsServedWrite, IsFound, TellsFound, read-tells}
-use Rattle.hy_theorems.proofs.RealTime.{return-reply, returned-below, read-above, stamp_of_reply}
+use Rattle.hy_theorems.proofs.RealTime.{return-reply, stamp_of_reply}
 use Rattle.hy_theorems.proofs.Ordering.{AreInTime, AreApart, InTime, Differs, all-each, all-inserted, all-sorted, sorted-ordered, ordered-real_time, op_of, IsLeft, IsMark, Finds, IsAbove, ordered-reads}
 use Rattle.hy_theorems.proofs.Meaning.{or-true}
 use Rattle.hy_theorems.proofs.Writes.{key_of-write}
 use Rattle.hy_trace.proofs.Growth.{zero_stamp, zero-least}
 use Rattle.hy_theorems.proofs.Beginnings.{AreOthers, begun-are, IsAmongBegun, begun, begun-in}
-use Rattle.hy_theorems.proofs.Marks.{as-read, write-done, IsWriteMark, IsReadMark, IsMarkOf, mark-is, mark-writing, in-time, marks-differ}
+use Rattle.hy_theorems.proofs.Marks.{as-read, write-done, IsWriteMark, IsMarkOf, mark-is, mark-writing, in-time, marks-differ}
 
 pub picked : {A B : Type 0} (f : A → Option B) (Q : A → Type 0) (P : B → Type 0) (xs : List A) → ((a : A) (b : B) → Q a → f a ≡ Some b → P b) → AllByRecursion Q xs → AllByRecursion P (filter_map f xs)
 picked f Q P [] each all = tt

@@ -1,10 +1,9 @@
 -- The first update of a write: where it was applied, the record had its timestamp from then on; where it was refused, the record was past it at once.
-use Rattle.std.proofs.Common.{◌≡◌, ℕ, ◌+◌, ◌-◌, ◌≤◌, ◌<◌, Bool, true, false, cond, List, [], ◌∷◌, length, Option, Some, None, refl, sym, ap, subst, ◌∙◌, inl, inr, arith}
-use Rattle.std.specs.Prelude.{◌⊎◌, ◌&&◌, ◌||◌, ◌==◌, nat_le}
+use Rattle.std.proofs.Common.{◌≡◌, ℕ, ◌+◌, ◌-◌, ◌≤◌, ◌<◌, Bool, true, false, List, [], ◌∷◌, length, Option, Some, None, refl, sym, ap, subst, ◌∙◌, inl, inr, arith}
+use Rattle.std.specs.Prelude.{◌&&◌, ◌||◌, ◌==◌, nat_le}
 use Rattle.std.specs.Option.{option_or}
 use Rattle.std.proofs.lemmas.Option.{none-some, same_Some}
 use Rattle.std.proofs.lemmas.Bool.{eqb-true, both_ways}
-use Rattle.std.proofs.lemmas.Bool.Decides.{nat_tests}
 use Rattle.hy_record.specs.declared.message.MetaAsk.{MetaAsk}
 use Rattle.hy_record.specs.declared.message.MetaAsk.TheVariants as asks
 use Rattle.hy_record.specs.Stamp.{Timestamp, stamp_lt}
@@ -17,15 +16,15 @@ use Rattle.hy_protocol.specs.Operations.{key_of, write_plan}
 use Rattle.hy_trace.specs.Deeds.{Params, Deed, Joined, Began, Handed, Served, Granted, Stopped, Nothing, Start, served, inputs_of}
 use Rattle.hy_trace.specs.Messages.{Ask}
 use Rattle.hy_trace.specs.Trace.{IsTrace}
-use Rattle.hy_trace.specs.Points.{Point, Update, update_by, update_at, passing, first_update, is_own, overwrites, just_before, point_by, write_point, was_applied}
-use Rattle.hy_trace.proofs.Growth.{or-none, zero_stamp, zero-least, Le, le-trans, top, or-cases, start-same}
+use Rattle.hy_trace.specs.Points.{Point, Update, passing, first_update, is_own, overwrites, point_by, write_point, was_applied}
+use Rattle.hy_trace.proofs.Growth.{or-none, zero_stamp, zero-least, Le, le-trans, top, start-same}
 use Rattle.hy_theorems.specs.Writing.{IsWriting, write_action}
 use Rattle.hy_theorems.proofs.Writes.{key_of-write, update-own}
 use Rattle.hy_theorems.proofs.Meaning.{IsAsked, IsUpdating, asked-sent, asked-keeps, asked-below, applied-keeps}
 use Rattle.hy_theorems.proofs.Speaking.{record-asked}
 use Rattle.hy_theorems.proofs.Invariant.{trace-holds, update-same, write_action-same}
 use Rattle.hy_theorems.proofs.Apart.{own-above, stamps-differ}
-use Rattle.hy_theorems.proofs.TopAt.{top_at, at-end, at-most, at-rises, serves-or-not, IsServedUpdate, update_now, first-served, first-keeps, asked-first, FirstAbove, first-above}
+use Rattle.hy_theorems.proofs.TopAt.{top_at, at-end, at-most, IsServedUpdate, update_now, first-served, first-keeps, asked-first, first-above}
 
 -- what is not above, and another, is below
 below-other : (a b : Timestamp) → Le a b → (a ≡ b → ⊥) → stamp_lt a b ≡ true

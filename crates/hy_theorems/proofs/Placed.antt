@@ -1,39 +1,33 @@
 -- The order by points is the order by timestamps.
-use Rattle.std.proofs.Common.{◌≡◌, ◌≢◌, ℕ, ◌+◌, ◌-◌, ◌≤◌, ◌<◌, Bool, true, false, List, [], ◌∷◌, length, Option, Some, None, refl, sym, ap, subst, ◌∙◌, inl, inr, arith}
+use Rattle.std.proofs.Common.{◌≡◌, ℕ, ◌+◌, ◌-◌, ◌≤◌, ◌<◌, Bool, true, false, List, [], ◌∷◌, Option, Some, None, refl, sym, ap, subst, ◌∙◌, inl, inr, arith}
 use Rattle.std.specs.Prelude.{◌⊎◌, ◌&&◌, ◌||◌, ◌==◌, not, nat_lt}
 use Rattle.std.specs.List.{AllByRecursion, filter_map, cons_option}
-use Rattle.std.proofs.lemmas.Option.{none-some}
 use Rattle.std.proofs.lemmas.Bool.{both_ways}
 use Rattle.std.proofs.lemmas.Bool.Decides.{nat_tests}
 use Rattle.hy_record.specs.declared.message.MetaSay.TheVariants as says
 use Rattle.hy_record.specs.declared.action.Action.{Action}
-use Rattle.hy_record.specs.declared.action.Action.TheVariants as asked
-use Rattle.hy_record.specs.declared.action.Reply.{Reply}
 use Rattle.hy_record.specs.Stamp.{Timestamp, stamp_lt}
-use Rattle.hy_record.specs.Record.{RecordValue}
 use Rattle.hy_record.proofs.Order.{stamp_le-lt, stamp_lt-same, stamp_lt-neither, stamp_eq-true, stamp_lt-other}
-use Rattle.hy_record.specs.declared.turn.Cue.{Cue}
 use Rattle.hy_meta.specs.Service.{stamp_of_record}
 use Rattle.hy_meta.proofs.Rising.{cases_bool}
 use Rattle.hy_protocol.specs.Inputs.{addresses}
 use Rattle.hy_protocol.specs.Operations.{key_of, write_plan, replied}
 use Rattle.hy_protocol.specs.Write.{write_reply}
-use Rattle.hy_protocol.specs.Read.{Version, version_of, answer_of, read_reply}
+use Rattle.hy_protocol.specs.Read.{version_of, answer_of, read_reply}
 use Rattle.hy_trace.specs.Deeds.{Params, Deed, Start, served, inputs_of, start_of}
 use Rattle.hy_trace.specs.Messages.{Say}
 use Rattle.hy_trace.specs.Trace.{IsTrace}
 use Rattle.hy_trace.specs.History.{Return, return_of, Begun, begun_of}
-use Rattle.hy_trace.specs.Points.{Point, Update, is_earlier, first_update, is_own, read_point, write_point, version_made, was_applied}
+use Rattle.hy_trace.specs.Points.{Point, Update, is_earlier, first_update, is_own, version_made, was_applied}
 use Rattle.hy_trace.specs.Order.{Mark, is_done, is_done_return, mark_of, marks_of, insert_mark, sorted_marks, is_later, is_behind}
 use Rattle.hy_trace.proofs.Growth.{Le, le-same, le-trans, start-same}
 use Rattle.hy_trace.proofs.Heard.{inputs-heard, said-answer}
-use Rattle.hy_theorems.specs.Writing.{write_action}
 use Rattle.hy_theorems.proofs.Meaning.{IsUpdated}
 use Rattle.hy_theorems.proofs.Invariant.{trace-holds}
 use Rattle.hy_theorems.proofs.Apart.{replied-write}
-use Rattle.hy_theorems.proofs.RealTime.{return-reply, stamp_of_reply, answer-stamp}
+use Rattle.hy_theorems.proofs.RealTime.{return-reply, answer-stamp}
 use Rattle.hy_theorems.proofs.Replies.{done-heard}
-use Rattle.hy_theorems.proofs.Ordering.{Before, IsBehind, behind-before, parts-before, all-sorted, Differs}
+use Rattle.hy_theorems.proofs.Ordering.{behind-before, parts-before, all-sorted, Differs}
 use Rattle.hy_theorems.proofs.Points.{answered-version}
 use Rattle.hy_theorems.proofs.Beginnings.{AreOthers, begun-are}
 use Rattle.hy_theorems.proofs.Marks.{behind-lt, behind-le, as-read, IsMarkOf, IsWriteMark, IsReadMark, mark-is, mark-writing, marks-differ}

@@ -1,11 +1,9 @@
 -- The point of a read: the record had the timestamp that the read found.
-use Rattle.std.proofs.Common.{◌≡◌, ℕ, ◌+◌, ◌≤◌, ◌<◌, Bool, true, false, List, [], ◌∷◌, length, map, Option, Some, None, refl, sym, ap, subst, ◌∙◌, inl, inr, arith}
-use Rattle.std.specs.Prelude.{◌⊎◌}
+use Rattle.std.proofs.Common.{◌≡◌, ℕ, ◌+◌, ◌≤◌, List, [], ◌∷◌, length, map, Option, Some, None, refl, sym, ap, subst, ◌∙◌, inl, inr, arith}
 use Rattle.std.specs.List.{AllByRecursion}
 use Rattle.std.proofs.lemmas.Option.{none-some, same_Some}
 use Rattle.hy_record.specs.declared.message.MetaAsk.{MetaAsk}
 use Rattle.hy_record.specs.declared.message.MetaAsk.TheVariants as asks
-use Rattle.hy_record.specs.declared.message.MetaSay.{MetaSay}
 use Rattle.hy_record.specs.declared.message.MetaSay.TheVariants as says
 use Rattle.hy_record.specs.declared.action.Action.{Action}
 use Rattle.hy_record.specs.declared.action.Action.TheVariants as asked
@@ -23,12 +21,11 @@ use Rattle.hy_protocol.specs.Inputs.{has_of}
 use Rattle.hy_protocol.specs.Operations.{key_of, sends_of, replied}
 use Rattle.hy_protocol.specs.Read.{Version, version_of, newer_version, answer_of, read_reply}
 use Rattle.hy_trace.specs.Deeds.{Params, Deed, Joined, Began, Handed, Served, Granted, Stopped, Nothing, Start, served, inputs_of, start_of}
-use Rattle.hy_trace.specs.Messages.{Message, Ask, Say, Request, Answer, message_of, sent_at, sent_after, IsAmong, IsSentAt}
+use Rattle.hy_trace.specs.Messages.{Message, Ask, Say, Request, Answer, message_of, sent_at, sent_after, IsSentAt}
 use Rattle.hy_trace.specs.Trace.{IsTrace}
 use Rattle.hy_trace.specs.Points.{newer_made, version_made}
-use Rattle.hy_trace.proofs.Growth.{top, or-second, start-keeps, start-same, all-among}
-use Rattle.hy_trace.proofs.Heard.{version-told, inputs-heard}
-use Rattle.hy_theorems.proofs.Writes.{all-mapped, all-cond}
+use Rattle.hy_trace.proofs.Growth.{top, or-second, start-keeps, all-among}
+use Rattle.hy_theorems.proofs.Writes.{all-mapped}
 use Rattle.hy_theorems.proofs.TopAt.{top_at, at-end, at-earlier}
 use Rattle.hy_theorems.proofs.Points.{made-step, made-has, version-before}
 

@@ -3,14 +3,14 @@ use Rattle.std.proofs.Common.{◌≡◌, ℕ, ◌+◌, ◌-◌, Bool, true, fals
 use Rattle.std.specs.Prelude.{◌&&◌, ◌==◌, not, nat_lt, nat_le, filter, take, slice_get, is_some}
 use Rattle.std.specs.List.{filter_map, cons_option, range_with_len}
 use Rattle.std.specs.Option.{option_or, option_map}
-use Rattle.std.proofs.lemmas.Option.{none-some, same_Some}
+use Rattle.std.proofs.lemmas.Option.{none-some}
 use Rattle.std.proofs.lemmas.Bool.{both_ways}
 use Rattle.hy_record.specs.declared.message.MetaSay.{MetaSay}
 use Rattle.hy_record.specs.declared.message.MetaSay.TheVariants as says
 use Rattle.hy_record.specs.declared.action.Reply.{Reply}
 use Rattle.hy_record.specs.Stamp.{Timestamp, stamp_lt}
 use Rattle.hy_base.specs.Shape.{cloud_count}
-use Rattle.hy_record.specs.Record.{RecordValue, is_tombstone}
+use Rattle.hy_record.specs.Record.{RecordValue}
 use Rattle.hy_record.specs.Clouds.{clouds_of}
 use Rattle.hy_record.proofs.Order.{stamp_lt-same}
 use Rattle.hy_record.specs.declared.turn.Cue.{Cue}
@@ -18,10 +18,9 @@ use Rattle.hy_record.specs.declared.turn.Cue.TheVariants as cues
 use Rattle.hy_record.specs.declared.turn.Out.{Out}
 use Rattle.hy_meta.specs.Service.{stamp_of_record}
 use Rattle.hy_meta.proofs.Rising.{cases_bool, both}
-use Rattle.hy_code.specs.declared.pick.Pick.{Pick}
 use Rattle.hy_protocol.specs.declared.plan.GetPlan.{GetPlan}
 use Rattle.hy_protocol.specs.Inputs.{has_of, is_fired, is_tick}
-use Rattle.hy_protocol.specs.Read.{Version, newer_version, version_of, first_valid, valid_picks, failed_attempts, answer_for, answer_of, read_reply, gets_from, watch_all, get_at, sends_at_rise, sends_since, first_gets, sends_to_version, read_sends, has_fired, supersedes, is_refresh, refresh_count}
+use Rattle.hy_protocol.specs.Read.{Version, newer_version, version_of, first_valid, valid_picks, failed_attempts, answer_for, answer_of, read_reply, gets_from, get_at, sends_at_rise, sends_since, first_gets, sends_to_version, read_sends, has_fired, supersedes, is_refresh, refresh_count}
 use Rattle.hy_trace.proofs.Growth.{or-none, or-first}
 use Rattle.hy_theorems.specs.Refreshing.{asks_for_record, reads_sent_again}
 

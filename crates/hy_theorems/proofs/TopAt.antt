@@ -1,17 +1,16 @@
 -- The record's timestamp after each step of a trace, and the first updates that pass a test.
 use Rattle.std.proofs.Common.{◌≡◌, ℕ, ◌+◌, ◌≤◌, ◌<◌, Bool, true, false, cond, List, [], ◌∷◌, length, Option, Some, None, refl, sym, ap, subst, ◌∙◌, inl, inr, arith}
-use Rattle.std.specs.Prelude.{◌⊎◌, ◌&&◌, ◌==◌, nat_le}
+use Rattle.std.specs.Prelude.{◌⊎◌, ◌&&◌, nat_le}
 use Rattle.std.proofs.lemmas.Option.{none-some, same_Some}
-use Rattle.std.proofs.lemmas.Bool.{eq-eqb, le-leb, lt-leb, leb-true, leb-false, both_ways}
+use Rattle.std.proofs.lemmas.Bool.{eq-eqb, le-leb, lt-leb, leb-true, both_ways}
 use Rattle.std.proofs.lemmas.Bool.Decides.{nat_tests}
 use Rattle.hy_record.specs.declared.message.MetaAsk.{MetaAsk}
 use Rattle.hy_record.specs.declared.message.MetaAsk.TheVariants as asks
 use Rattle.hy_record.specs.Stamp.{Timestamp, stamp_lt}
 use Rattle.hy_record.specs.Key.{key_eq}
 use Rattle.hy_record.specs.Record.{RecordValue}
-use Rattle.hy_record.proofs.Order.{stamp_le-lt, stamp_lt-le, key_eq-true, key_eq-same}
+use Rattle.hy_record.proofs.Order.{stamp_le-lt, stamp_lt-le, key_eq-true}
 use Rattle.hy_meta.specs.Service.{stamp_of_record, record_after, record_stamp}
-use Rattle.hy_meta.proofs.Lasting.{update-other}
 use Rattle.hy_meta.proofs.Rising.{cases_bool, both}
 use Rattle.hy_trace.specs.Deeds.{Deed, Joined, Began, Handed, Served, Granted, Stopped, Nothing, served}
 use Rattle.hy_trace.specs.Points.{Update, update_by, update_at, passing, first_update, is_own, overwrites}

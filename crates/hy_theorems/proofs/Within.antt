@@ -1,10 +1,10 @@
 -- The point of a listed operation lies within it.
-use Rattle.std.proofs.Common.{◌≡◌, ℕ, ◌+◌, ◌≤◌, ◌<◌, Bool, true, false, cond, List, [], ◌∷◌, length, Option, Some, None, refl, sym, ap, subst, ◌∙◌, inl, inr, arith}
-use Rattle.std.specs.Prelude.{◌⊎◌, ◌&&◌, ◌==◌, nat_le}
+use Rattle.std.proofs.Common.{◌≡◌, ℕ, ◌+◌, ◌≤◌, ◌<◌, Bool, true, false, List, [], ◌∷◌, length, Option, Some, None, refl, sym, ap, subst, ◌∙◌, inl, inr, arith}
+use Rattle.std.specs.Prelude.{nat_le}
 use Rattle.std.specs.Option.{option_map}
-use Rattle.std.specs.List.{AllByRecursion, filter_map}
-use Rattle.std.proofs.lemmas.Option.{none-some, same_Some, cond_some}
-use Rattle.std.proofs.lemmas.Bool.{both_ways, le-leb, leb-true, leb-false}
+use Rattle.std.specs.List.{AllByRecursion}
+use Rattle.std.proofs.lemmas.Option.{none-some, same_Some}
+use Rattle.std.proofs.lemmas.Bool.{both_ways, leb-true, leb-false}
 use Rattle.hy_record.specs.declared.action.Action.{Action}
 use Rattle.hy_record.specs.declared.action.Action.TheVariants as asked
 use Rattle.hy_record.specs.declared.action.Reply.{Reply}
@@ -16,24 +16,21 @@ use Rattle.hy_meta.proofs.Rising.{cases_bool}
 use Rattle.hy_protocol.specs.Operations.{key_of, write_plan, replied}
 use Rattle.hy_protocol.specs.Progress.{progress_of}
 use Rattle.hy_protocol.specs.Write.{write_reply}
-use Rattle.hy_order.specs.declared.operation.End.{End}
-use Rattle.hy_order.specs.declared.operation.End.TheVariants.{Replied}
 use Rattle.hy_order.specs.declared.operation.Operation.{Operation}
 use Rattle.hy_trace.specs.Deeds.{Params, Deed, Joined, Began, Handed, Served, Granted, Stopped, Nothing, Start, served, start_of, start_at, reply_of, inputs_of}
 use Rattle.hy_trace.specs.Trace.{IsTrace}
-use Rattle.hy_trace.specs.History.{Return, return_of, Begun, begun_of, end_of, operation_of}
-use Rattle.hy_trace.specs.Points.{Point, version_made}
+use Rattle.hy_trace.specs.History.{Return, return_of, Begun, begun_of, end_of}
+use Rattle.hy_trace.specs.Points.{Point}
 use Rattle.hy_trace.specs.Order.{Mark, mark_of, marks_of}
 use Rattle.hy_trace.proofs.Growth.{Le, top, or-cases, start-now, start-keeps, start-same}
 use Rattle.hy_trace.proofs.Steps.{has-replied}
-use Rattle.hy_theorems.specs.Writing.{write_action}
 use Rattle.hy_theorems.specs.Within.{ReturnsFrom, IsWithin}
 use Rattle.hy_theorems.proofs.Invariant.{IsCovered, trace-holds}
 use Rattle.hy_theorems.proofs.Apart.{own-above, replied-write}
-use Rattle.hy_theorems.proofs.RealTime.{return-reply, returned-within, shorter}
+use Rattle.hy_theorems.proofs.RealTime.{return-reply, returned-within}
 use Rattle.hy_theorems.proofs.Points.{point-timely}
 use Rattle.hy_theorems.proofs.Beginnings.{begun-are}
-use Rattle.hy_theorems.proofs.Marks.{write-done, IsWriteMark, IsReadMark, IsMarkOf, mark-is, mark-writing}
+use Rattle.hy_theorems.proofs.Marks.{write-done, IsWriteMark, IsMarkOf, mark-is, mark-writing}
 use Rattle.hy_theorems.proofs.Linear.{picked}
 use Rattle.hy_theorems.proofs.TopAt.{top_at, at-end, at-earlier, at-rises}
 use Rattle.hy_theorems.proofs.Overwritten.{IsWrittenAt}

@@ -1,16 +1,13 @@
 //! What a put does at an input that is for it.
 
-ghost use Rattle.std.specs.Prelude.{◌≡◌, ◌∷◌, [], ℕ, List, IfOk, IfSome, OnErr, Some, None, not, filter, true};
-ghost use Rattle.std.specs.List.{range_with_len};
-ghost use Rattle.hy_base.specs.Shape.{cloud_count};
+ghost use Rattle.std.specs.Prelude.{◌≡◌, ◌∷◌, [], ℕ, List, IfOk, IfSome, OnErr, Some, None, true};
 ghost use Rattle.hy_record.specs.Stamp.{Timestamp};
 ghost use Rattle.hy_record.specs.declared.message.MetaAsk.TheVariants as asks;
 ghost use Rattle.hy_record.specs.declared.message.MetaSay.TheVariants as says;
 ghost use Rattle.hy_record.specs.declared.turn.Cue.TheVariants as cues;
 ghost use Rattle.hy_record.specs.declared.turn.Out.TheVariants as outs;
 ghost use Rattle.hy_protocol.specs.Inputs.{is_stored};
-ghost use Rattle.hy_operation.specs.Marks.{is_marked};
-ghost use Rattle.hy_put.specs.Contents.{puts_of};
+ghost use Rattle.hy_put.specs.Contents.{puts_again};
 ghost use Rattle.hy_put.specs.Standing.{Takes};
 ghost use Rattle.hy_put.specs.declared.state.State.TheVariants as states;
 
@@ -57,7 +54,8 @@ impl PutOp {
 
     /// The fragments that no cloud has acknowledged yet, to each cloud its own.
     fn puts_again(&self, alloc: Global, storing: &Storing) -> Result<Vec<Out>, NoMemory>
-        ensures { IfOk result (λ sends. IfSome self.now.content (λ content. sends.items ≡ puts_of self.now.issuer content.fragments storing.now.stamp (filter (λ cloud. not (is_marked storing.now.acked cloud)) (range_with_len 0 (cloud_count content.f content.k))))) }
+        ensures { IfOk result (λ sends. IfSome self.now.content (λ content.
+            sends.items ≡ puts_again self.now.issuer content storing.now.stamp storing.now.acked)) }
     {
         match &self.content {
             Some(content) => {
@@ -84,7 +82,8 @@ impl PutOp {
 
     /// The record of the key.
     fn told(&mut self, alloc: Global, rec: &Option<Record>) -> Result<Turn, NoMemory>
-        ensures takes { (c o : ℕ) (k : List ℕ) → Takes self.old self.new (cues.Meta (says.Has c o k rec.now)) result }
+        ensures takes { (c o : ℕ) (k : List ℕ) →
+            Takes self.old self.new (cues.Meta (says.Has c o k rec.now)) result }
     {
         match &self.state {
             State::Reading => self.begin(alloc, rec),
@@ -96,7 +95,8 @@ impl PutOp {
 
     /// The first record that is told: the write's timestamp is the next one.
     fn begin(&mut self, alloc: Global, rec: &Option<Record>) -> Result<Turn, NoMemory>
-        ensures { (c o : ℕ) (k : List ℕ) → self.old.state ≡ states.Reading → Takes self.old self.new (cues.Meta (says.Has c o k rec.now)) result }
+        ensures { (c o : ℕ) (k : List ℕ) → self.old.state ≡ states.Reading →
+            Takes self.old self.new (cues.Meta (says.Has c o k rec.now)) result }
     {
         let held = stamp_of(rec);
         let stamp = match held.after(self.issuer.client) {
@@ -123,7 +123,9 @@ impl PutOp {
 
     /// The record of the key is to be this one.
     fn update(&mut self, alloc: Global, rec: Record) -> Result<Turn, NoMemory>
-        ensures turn { IfOk result (λ turn. turn ≡ record { sends = outs.Meta (asks.Update self.old.issuer.client self.old.issuer.op self.old.issuer.key rec) ∷ []; reply = None }) }
+        ensures turn { let i = self.old.issuer in
+            let sent = outs.Meta (asks.Update i.client i.op i.key rec) in
+            IfOk result (λ turn. turn ≡ record { sends = sent ∷ []; reply = None }) }
         ensures state { IfOk result (λ _. self.new.state ≡ states.Updating rec) }
         ensures err { OnErr result (self.new.state ≡ self.old.state) }
         ensures issuer { self.new.issuer ≡ self.old.issuer }
@@ -137,8 +139,10 @@ impl PutOp {
 
     /// The service served the update.
     fn served(&mut self, alloc: Global) -> Result<Turn, NoMemory>
-        ensures applied { (c o : ℕ) (k : List ℕ) (s : Timestamp) → Takes self.old self.new (cues.Meta (says.Applied c o k s)) result }
-        ensures kept { (c o : ℕ) (k : List ℕ) (s : Timestamp) → Takes self.old self.new (cues.Meta (says.Kept c o k s)) result }
+        ensures applied { (c o : ℕ) (k : List ℕ) (s : Timestamp) →
+            Takes self.old self.new (cues.Meta (says.Applied c o k s)) result }
+        ensures kept { (c o : ℕ) (k : List ℕ) (s : Timestamp) →
+            Takes self.old self.new (cues.Meta (says.Kept c o k s)) result }
     {
         match &self.state {
             State::Updating(rec) => {

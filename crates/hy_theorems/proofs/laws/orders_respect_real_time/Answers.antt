@@ -1,4 +1,4 @@
-use Rattle.std.proofs.Common.{List, map, None, sym, subst}
+use Rattle.std.proofs.Common.{List, map, sym, subst}
 use Rattle.hy_order.specs.Linearization.{RespectsRealTime}
 use Rattle.hy_trace.specs.Order.{Mark, op_of}
 use Rattle.hy_theorems.proofs.Linear.{real-time}

@@ -1,5 +1,5 @@
 -- Each premise is computed, but that one string alone was hashed.
-use Rattle.std.proofs.Common.{◌≡◌, ℕ, List, [], ◌∷◌, Some, refl, subst, inl, inr, arith}
+use Rattle.std.proofs.Common.{ℕ, List, [], ◌∷◌, Some, refl, subst, inl, inr, arith}
 use Rattle.hy_record.specs.Stamp.{stamp_lt, stamp_eq}
 use Rattle.hy_record.specs.Key.{key_eq}
 use Rattle.hy_record.specs.Clouds.{clouds_of}

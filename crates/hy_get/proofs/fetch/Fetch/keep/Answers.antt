@@ -1,4 +1,4 @@
-use Rattle.std.proofs.Common.{◌≡◌, ◌∙◌, ℕ, ◌+◌, ◌<◌, ◌≤◌, List, length, true, false, refl, ap, sym, arith}
+use Rattle.std.proofs.Common.{◌≡◌, ◌∙◌, ℕ, ◌<◌, ◌≤◌, List, length, true, false, refl, ap, sym, arith}
 use Rattle.std.specs.Prelude.{◌==◌, insert, remove, nat_lt}
 use Rattle.std.specs.List.{list_any, prefix_len}
 use Rattle.hy_code.specs.declared.pick.Pick.{Pick}

@@ -1,4 +1,4 @@
-use Rattle.std.proofs.Common.{◌≡◌, refl, ◌∙◌, ap, sym, subst, List, [], Option, Some, None}
+use Rattle.std.proofs.Common.{◌∙◌, ap, sym, subst, [], Option, Some}
 use Rattle.hy_record.specs.declared.action.Reply.TheVariants as told
 use Rattle.hy_record.specs.Stamp.{Timestamp}
 use Rattle.hy_record.specs.Record.{RecordValue, IsRecord}

@@ -1,10 +1,9 @@
-use Rattle.std.proofs.Common.{◌≡◌, refl, ◌∙◌, ap, sym, subst, true, false, List, None}
+use Rattle.std.proofs.Common.{refl, ◌∙◌, sym, subst, true, false}
 use Rattle.hy_record.specs.declared.message.MetaSay.TheVariants as says
 use Rattle.hy_record.specs.declared.turn.Cue.TheVariants as cues
-use Rattle.hy_record.specs.declared.turn.Out.{Out}
 use Rattle.hy_get.specs.declared.get.State.{State}
 use Rattle.hy_get.proofs.Since.{fired-does}
-use Rattle.hy_get.proofs.Standing.{fetching-goes, turn_with}
+use Rattle.hy_get.proofs.Standing.{fetching-goes}
 use Rattle.hy_get.proofs.Idle.{IsIdleAt, idle-goes, old-news-idle, is-news, fired-rounds}
 use Rattle.hy_get.proofs.get.GetOp.supersede.Goals as goal
 
