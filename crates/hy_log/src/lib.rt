@@ -1,0 +1,10 @@
+//! What is kept of the steps of a store: the messages, and the operations with what a report tells of them.
+#![tactic(auto)]
+
+mod effects;
+mod log;
+mod post;
+
+pub use effects::{Beginning, Effects, Heard, Return, Updated, return_of};
+pub use log::{Log, Started};
+pub use post::{Post, Posted, posts_of, posts_of_says};

@@ -1,0 +1,5 @@
+pub mod Sessions
+pub mod Seated
+pub mod Standing
+pub mod Serving
+pub mod Doing

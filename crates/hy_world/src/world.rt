@@ -1,0 +1,91 @@
+//! The simulator's calls.
+
+ghost use Rattle.std.specs.Prelude.{◌*◌, ◌≤◌};
+
+use crate::event::{Event, Params};
+use crate::simulation::Simulation;
+use hy_base::NoMemory;
+use hy_meta::{Meta, Service};
+use std::alloc::Global;
+
+/// A store whose clients, service and clouds take the steps of a schedule. It stands for the trace of these steps.
+///
+/// It is generic over the metadata service. After want of memory it takes no step.
+#[derive(Drop)]
+pub struct WorldOver<M> {
+    simulation: Simulation<M>,
+    events: u32,
+    is_broken: bool,
+    ghost few: { simulation.log.steps ≤ events * 65537 },
+}
+
+/// A world with the first metadata service.
+pub type World = WorldOver<Service>;
+
+impl<M: Meta + Drop> WorldOver<M> {
+    ghost use Rattle.std.specs.Prelude.{◌≡◌, ◌+◌, ◌<◌, ◌∷◌, [], ℕ, List, length, IfOk, OnOk, OnErr, IsErr, IsTrue};
+    ghost use Rattle.hy_base.specs.Shape.{IsShape};
+    ghost use Rattle.hy_base.specs.declared.limits.TheConstants.{MAX_EVENTS};
+    ghost use Rattle.hy_trace.specs.declared.step.Step.{Step};
+    ghost use Rattle.hy_trace.specs.Deeds.{Params as TraceParams};
+    ghost use Rattle.hy_trace.specs.Messages.{messages_of};
+    ghost use Rattle.hy_trace.specs.Schedule.{trace_of};
+    ghost use Rattle.hy_world.specs.Schedules.{params_of, steps_with, HasTextValue};
+    ghost use Rattle.hy_world.specs.World.{StandsForSteps, IsBroken, events_taken};
+
+    /// A store of these parameters in which nobody joined, with a service that served nothing and gave no id.
+    pub fn with(alloc: Global, params: &Params, service: M) -> Result<WorldOver<M>, NoMemory>
+        requires shape { IsShape params.now.f params.now.k }
+        requires served { M.served service [] }
+        requires given { M.given service ≡ 0 }
+        ensures stands { IfOk result (StandsForSteps M.served M.given (params_of params.now) []) }
+        ensures events { IfOk result (λ world. events_taken world ≡ 0) }
+    {
+        let simulation = Simulation::new(alloc, *params, service)?;
+        Ok(WorldOver {
+            simulation,
+            events: 0,
+            is_broken: false,
+        })
+    }
+
+    /// An event, which takes one step; a `Do` takes one, and one for each message that it delivers.
+    ///
+    /// After want of memory each later event answers that too.
+    pub fn step(&mut self, alloc: Global, event: &Event) -> Result<(), NoMemory>
+        requires room { events_taken self.old < MAX_EVENTS }
+        requires short { HasTextValue event.now }
+        ensures ok { OnOk result ((p : TraceParams) (before : List Step) → StandsForSteps M.served M.given p before self.old → StandsForSteps M.served M.given p (steps_with p event.now before) self.new) }
+        ensures events { OnOk result (events_taken self.new ≡ events_taken self.old + 1) }
+        ensures err { OnErr result (IsBroken self.new) }
+        ensures broken { IsBroken self.old → IsErr result }
+    {
+        if self.is_broken {
+            return Err(NoMemory);
+        }
+        match self.simulation.take(alloc, event) {
+            Ok(()) => {
+                self.events += 1;
+                Ok(())
+            }
+            Err(error) => {
+                self.is_broken = true;
+                Err(error)
+            }
+        }
+    }
+
+    /// How many messages were sent.
+    pub fn sent(&self) -> u64
+        ensures { (p : TraceParams) (steps : List Step) → StandsForSteps M.served M.given p steps self.now → result ≡ length (messages_of p (trace_of p steps)) }
+    {
+        self.simulation.log.posts.len() as u64
+    }
+
+    /// How many steps were taken.
+    pub fn steps(&self) -> u64
+        ensures { (p : TraceParams) (steps : List Step) → StandsForSteps M.served M.given p steps self.now → result ≡ length steps }
+    {
+        self.simulation.log.steps
+    }
+}
