@@ -12,12 +12,13 @@ use Rattle.hy_protocol.specs.Inputs.{addresses}
 use Rattle.hy_protocol.specs.Operations.{key_of, replied}
 use Rattle.hy_protocol.specs.Progress.{Progress}
 use Rattle.hy_protocol.specs.Session.{Session, takes, takes_by, session_after, session_invoked, session_stopped, is_idle, is_running, reply_by, session_progress, progress_by}
-use Rattle.hy_world.specs.declared.client.Client.{Client}
-use Rattle.hy_world.specs.declared.client.InvokeFault.{InvokeFault}
-use Rattle.hy_world.specs.declared.client.InvokeFault.TheVariants as faults
-use Rattle.hy_world.specs.declared.client.Running.{Running}
+use Rattle.hy_client.specs.declared.client.Client.{Client}
+use Rattle.hy_client.specs.declared.fault.InvokeFault.{InvokeFault}
+use Rattle.hy_client.specs.declared.fault.InvokeFault.TheVariants as faults
+use Rattle.hy_client.specs.declared.client.Running.{Running}
 use Rattle.hy_world.specs.declared.seat.Seat.{Seat}
-use Rattle.hy_world.specs.Clients.{StandsForSession, invoke_refusal, size_refusal, running_of}
+use Rattle.hy_client.specs.Sizes.{size_refusal}
+use Rattle.hy_client.specs.Clients.{StandsForSession, invoke_refusal, running_of}
 use Rattle.hy_world.specs.Seats.{StandsForSeat, value_size, is_no_memory}
 
 none-some : {A : Type 0} (x : A) → ◌≡◌ {A = Option A} None (Some x) → ⊥

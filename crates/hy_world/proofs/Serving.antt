@@ -90,9 +90,11 @@ unfolding joined granted
 joining p t params seats clouds id y here new r =
     record {
       params_are = r.params_are;
+      shape_is = r.shape_is;
       seat_count = length_push seats y ∙ ap (λ (n : ℕ). n + 1) r.seat_count;
       standing = standing-push p t seats id y here r.seat_count new r.unborn r.standing;
       unborn = λ c past. (let before : joined t < c = omega arith in foreign-same p c Joined t (joined-foreign c t) ∙ r.unborn c before);
+      nobody = foreign-same p 0 Joined t (joined-foreign 0 t) ∙ r.nobody;
       keeping = r.keeping;
     }
 
@@ -122,9 +124,11 @@ module _ (M : Type 0) (serves : M → List MetaAsk → Type 0) (given : M → �
       given_is = count ∙ r.given_is;
       nodes_stand = record {
         params_are = r.nodes_stand.params_are;
+        shape_is = r.nodes_stand.shape_is;
         seat_count = r.nodes_stand.seat_count;
         standing = standing-all p t nodes.seats.items (Served ask) (λ c. served-foreign c ask t) r.nodes_stand.standing;
         unborn = λ c past. foreign-same p c (Served ask) t (served-foreign c ask t) ∙ r.nodes_stand.unborn c past;
+        nobody = foreign-same p 0 (Served ask) t (served-foreign 0 ask t) ∙ r.nodes_stand.nobody;
         keeping = r.nodes_stand.keeping;
       };
     },

@@ -5,7 +5,7 @@ use Rattle.std.specs.List.{All}
 use Rattle.std.proofs.lemmas.List.{length_push, get_or_append_left, get_or_push}
 use Rattle.std.proofs.lemmas.Bool.{cases_eq, cases_lt, cases_Bool, false≢true, ne_eqb, le-leb, lt-leb, eq-eqb}
 use Rattle.hy_base.specs.declared.failure.NoMemory.{NoMemory}
-use Rattle.hy_base.specs.Shape.{cloud_count}
+use Rattle.hy_base.specs.Shape.{IsShape, cloud_count}
 use Rattle.hy_record.specs.declared.action.Action.{Action}
 use Rattle.hy_record.specs.declared.action.Reply.{Reply}
 use Rattle.hy_record.specs.declared.cloud.CloudAsk.{CloudAsk}
@@ -65,7 +65,7 @@ either-silent : (b : Bool) (x y : Deed) (t : List Deed) → IsSilent x t → IsS
 either-silent true x y t a b = a
 either-silent false x y t a b = b
 
-abbrev Standing : Params → List Deed → List Seat → Type 0
+abbrev pub Standing : Params → List Deed → List Seat → Type 0
 Standing p t seats = (i : ℕ) (other : Seat) → i < length seats → StandsForSeat (slice_index_or seats i other) (session_of p (i + 1) t)
 
 pub standing-all : (p : Params) (t : List Deed) (seats : List Seat) (d : Deed) → ((c : ℕ) → IsForeign c d t) → Standing p t seats → Standing p (d ∷ t) seats
@@ -98,9 +98,11 @@ pub quietly : (p : Params) (t : List Deed) (params : StoreParams) (seats : List 
 quietly p t params seats clouds d silent foreign r =
     record {
       params_are = r.params_are;
+      shape_is = r.shape_is;
       seat_count = r.seat_count ∙ sym silent.quiet.joins;
       standing = standing-all p t seats d foreign r.standing;
       unborn = λ c past. foreign-same p c d t (foreign c) ∙ r.unborn c (subst (λ (n : ℕ). n < c) silent.quiet.joins past);
+      nobody = foreign-same p 0 d t (foreign 0) ∙ r.nobody;
       keeping = λ i e lt. rw (silent.grants i) (r.keeping i e lt);
     }
 
@@ -115,6 +117,7 @@ personally p t params seats clouds d c x y low high is silent foreign turns r =
     let at_it : StandsForSeat x (session_of p c t) = seat-at p t seats c x low high is r.standing in
     record {
       params_are = r.params_are;
+      shape_is = r.shape_is;
       seat_count = length-set seats (c - 1) y ∙ (r.seat_count ∙ sym silent.quiet.joins);
       standing =
           standing-set p t seats d (c - 1) y inside
@@ -125,6 +128,7 @@ personally p t params seats clouds d c x y low high is silent foreign turns r =
           let later : joined t < b = subst (λ (n : ℕ). n < b) silent.quiet.joins past in
           let count = r.seat_count in
           foreign-same p b d t (foreign b (ne_eqb c b (omega arith))) ∙ r.unborn b later);
+      nobody = foreign-same p 0 d t (foreign 0 (ne_eqb c 0 low)) ∙ r.nobody;
       keeping = λ i e lt. rw (silent.grants i) (r.keeping i e lt);
     }
 
@@ -266,9 +270,11 @@ granting p t params seats clouds made ask x y say e honest inside is goes answer
         effects = record { posts = sent ∙ ap (λ (a : CloudSay). posts.Answer (cues.Cloud (record { client = ask.client; op = ask.op; cloud = ask.cloud; key = ask.wish.key; stamp = ask.wish.stamp; say = a })) ∷ []) (answers (granted ask.cloud t) kept); began = began; returned = returned; heard = hears; updated = updated };
         nodes = record {
           params_are = r.params_are;
+          shape_is = r.shape_is;
           seat_count = r.seat_count ∙ sym quiet.joins;
           standing = standing-all p t seats (Granted ask) (λ c. granted-foreign c ask t) r.standing;
           unborn = λ c past. foreign-same p c (Granted ask) t (granted-foreign c ask t) ∙ r.unborn c (subst (λ (n : ℕ). n < c) quiet.joins past);
+          nobody = foreign-same p 0 (Granted ask) t (granted-foreign 0 ask t) ∙ r.nobody;
           keeping = keeping-set t clouds ask y inside (goes (granted ask.cloud t) kept) r.keeping;
         };
         quiet = quiet;
@@ -389,14 +395,16 @@ lie-out reply p t w honest r = rw (liar-is p t w reply.cloud r ∙ honest) refl
 
 -- ---- the beginning
 
-pub starts-empty : (params : StoreParams) (seats : List Seat) (clouds : List Cloud) → seats ≡ [] → All (λ cloud. StandsForWishes cloud []) clouds → NodesRun (params_of params) [] params seats clouds
+pub starts-empty : (params : StoreParams) (seats : List Seat) (clouds : List Cloud) → IsShape params.f params.k → seats ≡ [] → All (λ cloud. StandsForWishes cloud []) clouds → NodesRun (params_of params) [] params seats clouds
 unfolding joined granted session_of begun start_of inputs_of
-starts-empty params seats clouds empty new =
+starts-empty params seats clouds shape empty new =
     record {
       params_are = refl;
+      shape_is = shape;
       seat_count = ap length empty;
       standing = λ i d lt. absurd (let count : length seats ≡ 0 = ap length empty in omega arith);
       unborn = λ c past. refl;
+      nobody = refl;
       keeping = λ i d lt. new i d lt;
     }
 

@@ -1,6 +1,8 @@
-pub mod Clients
 pub mod Schedules
+pub mod Progress
 pub mod Seats
 pub mod Nodes
+pub mod Holders
 pub mod Machines
 pub mod World
+pub mod Promises

@@ -2,6 +2,7 @@
 use Rattle.std.specs.Prelude.{◌≡◌, ℕ, ◌+◌, ◌<◌, ◌≤◌, ◌^◌, true, List, [], ◌∷◌, length, slice_index_or, Option, Some, None, Result, IfOk}
 use Rattle.std.specs.List.{list_any}
 use Rattle.hy_base.specs.declared.failure.NoMemory.{NoMemory}
+use Rattle.hy_base.specs.Shape.{IsShape}
 use Rattle.hy_record.specs.declared.action.Action.{Action}
 use Rattle.hy_record.specs.declared.turn.Cue.{Cue}
 use Rattle.hy_record.specs.declared.turn.Cue.TheVariants as cues
@@ -38,9 +39,11 @@ addressee cues.Tick = 0
 -- clients and clouds stand for the trace: each client for its session, each cloud for the requests that it served
 pub record NodesRun (p : Params) (t : List Deed) (params : StoreParams) (seats : List Seat) (clouds : List Cloud) : Type 0 where
   pub params_are : p ≡ params_of params
+  pub shape_is : IsShape p.f p.k
   pub seat_count : length seats ≡ joined t
   pub standing : (i : ℕ) (other : Seat) → i < length seats → StandsForSeat (slice_index_or seats i other) (session_of p (i + 1) t)
   pub unborn : (c : ℕ) → joined t < c → session_of p c t ≡ fresh_session p.f p.k c
+  pub nobody : session_of p 0 t ≡ fresh_session p.f p.k 0
   pub keeping : (i : ℕ) (other : Cloud) → i < length clouds → StandsForWishes (slice_index_or clouds i other) (granted i t)
 
 -- those of these nodes do

@@ -7,11 +7,11 @@ use Rattle.hy_record.specs.declared.turn.Cue.{Cue}
 use Rattle.hy_protocol.specs.Inputs.{has_of}
 use Rattle.hy_protocol.specs.Operations.{key_of}
 use Rattle.hy_protocol.specs.Session.{Session, takes}
-use Rattle.hy_world.specs.declared.client.InvokeFault.{InvokeFault}
-use Rattle.hy_world.specs.declared.client.InvokeFault.TheVariants as faults
+use Rattle.hy_client.specs.declared.fault.InvokeFault.{InvokeFault}
+use Rattle.hy_client.specs.declared.fault.InvokeFault.TheVariants as faults
 use Rattle.hy_world.specs.declared.seat.Seat.{Seat}
 use Rattle.hy_log.specs.declared.effects.Heard.{Heard}
-use Rattle.hy_world.specs.Clients.{StandsForSession, begun_of}
+use Rattle.hy_client.specs.Clients.{StandsForSession, begun_of}
 use Rattle.hy_log.specs.Effects.{heard_with}
 
 -- the client stands for the session, and what is known of it beside is the session's

@@ -1,11 +1,13 @@
 //! The simulator: the clients, the metadata service and the clouds of a store, which stand for the trace of the steps that they took.
 #![tactic(auto)]
 
-mod client;
+mod cloud_set;
 mod copies;
 mod event;
+mod holders;
 mod machines;
 mod nodes;
+mod progress;
 mod seat;
 mod simulation;
 mod world;

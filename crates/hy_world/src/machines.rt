@@ -11,7 +11,8 @@ ghost use Rattle.hy_record.specs.declared.message.MetaAsk.{MetaAsk};
 ghost use Rattle.hy_meta.specs.Service.{record_stamp};
 ghost use Rattle.hy_world.specs.Schedules.{params_of};
 ghost use Rattle.hy_log.specs.Effects.{post_of, updated_by};
-ghost use Rattle.hy_world.specs.Nodes.{addressee};
+ghost use Rattle.hy_trace.specs.Held.{held_of, held_with};
+ghost use Rattle.hy_world.specs.Nodes.{addressee, NodesStand};
 ghost use Rattle.hy_world.specs.Machines.{MachinesStand, MachinesDo};
 
 use hy_log::{Effects, Updated};
@@ -20,7 +21,8 @@ use crate::nodes::Nodes;
 use hy_log::{Post, posts_of_says};
 use hy_base::NoMemory;
 use hy_meta::Meta;
-use hy_record::{Cue, Key, MetaAsk, MetaSay, Stamp};
+use hy_order::Held;
+use hy_record::{Cue, Key, MetaAsk, MetaSay, Record, Stamp};
 use std::alloc::Global;
 
 /// The machines of a store.
@@ -82,6 +84,16 @@ impl<M: Meta + Drop> Machines<M> {
         })
     }
 
+    /// The current version of the key, where that has a value, and the clouds from which it can be retrieved.
+    pub(crate) fn held(&self, key: &Key) -> Option<Held>
+        ensures { (p : TraceParams) (t : List Deed) → MachinesStand M.served M.given p t self.now → result ≡ held_of p t key.now }
+    {
+        match self.service.current(key) {
+            Some(rec) => held_by(&self.nodes, key, rec),
+            None => None,
+        }
+    }
+
     /// Which operation's update the request is, and whether the service will apply it.
     fn updated_by(&self, ask: &MetaAsk) -> Option<Updated>
         ensures { (asks : List MetaAsk) → M.served self.now.service asks → result ≡ updated_by ask.now asks }
@@ -135,4 +147,18 @@ fn client_of(cue: &Cue) -> u32
         Cue::Cloud(reply) => reply.client,
         Cue::Tick => 0,
     }
+}
+
+/// The version of the key's record, where that is no deletion's, and the clouds from which it can be retrieved.
+fn held_by(nodes: &Nodes, key: &Key, rec: &Record) -> Option<Held>
+    ensures { (p : TraceParams) (t : List Deed) → NodesStand p t nodes.now → result ≡ held_with p t key.now (Some rec.now) }
+{
+    if rec.is_tomb() {
+        return None;
+    }
+    Some(Held {
+        key: *key,
+        stamp: rec.stamp(),
+        clouds: nodes.holders(key, rec),
+    })
 }

@@ -1,9 +1,9 @@
 //! The clients and the honest clouds of a store.
 
-ghost use Rattle.std.specs.Prelude.{◌≡◌, length};
+ghost use Rattle.std.specs.Prelude.{◌≡◌, ◌++◌, ◌∷◌, [], length, OnOk};
 ghost use Rattle.hy_base.specs.Shape.{IsShape, cloud_count};
 
-use crate::client::Client;
+use hy_client::Client;
 use crate::copies::copy_of_action;
 use hy_log::{Beginning, Effects, return_of};
 use crate::event::Params;
@@ -11,7 +11,7 @@ use hy_log::{Post, posts_of};
 use crate::seat::Seat;
 use hy_base::{NoMemory, cloud_count};
 use hy_cloud::Cloud;
-use hy_operation::has_cloud;
+use crate::cloud_set::has_cloud;
 use hy_record::{Action, CloudAsk, CloudReply, Cue};
 use std::alloc::Global;
 
@@ -26,7 +26,7 @@ pub(crate) struct Nodes {
 }
 
 impl Nodes {
-    ghost use Rattle.std.specs.Prelude.{◌∷◌, ◌<◌, ◌≤◌, ◌+◌, ◌^◌, ◌++◌, [], ℕ, List, not, is_some, IfOk, OnOk, Some};
+    ghost use Rattle.std.specs.Prelude.{◌<◌, ◌≤◌, ◌+◌, ◌^◌, ℕ, List, not, is_some, IfOk, Some};
     ghost use Rattle.std.specs.List.{All};
     ghost use Rattle.hy_base.specs.declared.limits.TheConstants.{MAX_VALUE};
     ghost use Rattle.hy_protocol.specs.Session.{fresh_session};
@@ -55,7 +55,7 @@ impl Nodes {
 
     /// Whether the cloud is Byzantine, or none of the store.
     #[tactic(auto, unfolding(crate::specs::Schedules::is_liar_of))]
-    fn is_liar(&self, cloud: u8) -> bool
+    pub(crate) fn is_liar(&self, cloud: u8) -> bool
         ensures { result ≡ is_liar_of self.now.params cloud }
     {
         if cloud >= cloud_count(self.params.f, self.params.k) {
@@ -79,14 +79,14 @@ impl Nodes {
         ensures clouds { self.new.clouds.items ≡ self.old.clouds.items }
         ensures seats { OnOk result ((seat : Seat) × StandsForSeat seat (fresh_session self.old.params.f self.old.params.k number) × (self.new.seats.items ≡ self.old.seats.items ++ seat ∷ [])) }
     {
-        self.seats.reserve(1)?;
         let client = Client::new(number, self.params.f, self.params.k);
-        self.seats.push_reserved(Seat {
+        let seat = Seat {
             client,
             number,
             is_stopped: false,
             key: None,
-        });
+        };
+        add_seat(&mut self.seats, seat)?;
         Ok(())
     }
 
@@ -233,4 +233,12 @@ impl Nodes {
         }
         Ok(clouds)
     }
+}
+
+/// A client takes the next seat.
+fn add_seat(seats: &mut Vec<Seat>, seat: Seat) -> Result<(), NoMemory>
+    ensures { OnOk result (seats.new.items ≡ seats.old.items ++ seat ∷ []) }
+{
+    seats.push(seat)?;
+    Ok(())
 }

@@ -6,14 +6,15 @@ ghost use Rattle.hy_base.specs.declared.limits.TheConstants.{MAX_VALUE};
 ghost use Rattle.hy_meta.specs.Service.{stamp_of_record};
 ghost use Rattle.hy_protocol.specs.Inputs.{has_of};
 ghost use Rattle.hy_protocol.specs.Operations.{key_of};
-ghost use Rattle.hy_protocol.specs.Session.{Session, session_after, session_turn, session_invoked, session_stopped, invoked_sends, is_idle, is_running, takes};
-ghost use Rattle.hy_world.specs.Clients.{running_of};
+ghost use Rattle.hy_protocol.specs.Session.{Session, session_after, session_turn, session_invoked, session_stopped, invoked_sends, is_idle, is_running, session_progress, takes};
+ghost use Rattle.hy_client.specs.Clients.{running_of};
+ghost use Rattle.hy_world.specs.Progress.{told_progress};
 ghost use Rattle.hy_world.specs.Seats.{StandsForSeat, begun_at, value_size, is_no_memory, heard_by};
 
-use crate::client::{Client, InvokeFault, Running};
+use hy_client::{Client, InvokeFault};
 use hy_log::Heard;
 use hy_base::NoMemory;
-use hy_operation::stamp_of;
+use hy_operation::{Progress, stamp_of};
 use hy_protocol::is_for;
 use hy_record::{Action, Cue, Key, MetaSay, Out, Stamp, Turn};
 use std::alloc::Global;
@@ -102,6 +103,20 @@ impl Seat {
         match self.client.running() {
             Some(_running) => true,
             None => false,
+        }
+    }
+
+    /// How far the client's last operation is, where that has no reply.
+    pub(crate) fn progress(&self) -> Option<Progress>
+        ensures { (s : Session) → StandsForSeat self.now s → result ≡ option_map told_progress (session_progress s) }
+    {
+        match self.client.running() {
+            Some(running) => Some(Progress {
+                phase: running.phase,
+                have: running.have,
+                need: running.need,
+            }),
+            None => None,
         }
     }
 

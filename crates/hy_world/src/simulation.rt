@@ -112,7 +112,7 @@ impl<M: Meta + Drop> Simulation<M> {
         ensures steps { OnOk result (self.new.log.steps ≤ self.old.log.steps + 65536) }
     {
         for i in 0..MAX_GIVES {
-            let number = first + u64::from(i);
+            let number = first + i as u64;
             if !self.goes_on(client, number) {
                 return Ok(());
             }
@@ -144,7 +144,7 @@ fn effects_of<M: Meta + Drop>(
         Event::Join => machines.join(alloc),
         Event::Do { client, action } => machines.nodes.invoke(alloc, *client, action),
         Event::Invoke { client, action } => machines.nodes.invoke(alloc, *client, action),
-        Event::Give { number } => give(machines, log, alloc, u64::from(*number)),
+        Event::Give { number } => give(machines, log, alloc, *number as u64),
         Event::Lie {
             cloud,
             client,

@@ -1,11 +1,13 @@
 //! The simulator's calls.
 
-ghost use Rattle.std.specs.Prelude.{◌*◌, ◌≤◌};
+ghost use Rattle.std.specs.Prelude.{◌≡◌, ◌*◌, ◌≤◌, false};
 
 use crate::event::{Event, Params};
 use crate::simulation::Simulation;
 use hy_base::NoMemory;
 use hy_meta::{Meta, Service};
+use hy_order::Held;
+use hy_record::Key;
 use std::alloc::Global;
 
 /// A store whose clients, service and clouds take the steps of a schedule. It stands for the trace of these steps.
@@ -16,14 +18,14 @@ pub struct WorldOver<M> {
     simulation: Simulation<M>,
     events: u32,
     is_broken: bool,
-    ghost few: { simulation.log.steps ≤ events * 65537 },
+    ghost few: { is_broken ≡ false → simulation.log.steps ≤ events * 65537 },
 }
 
 /// A world with the first metadata service.
 pub type World = WorldOver<Service>;
 
 impl<M: Meta + Drop> WorldOver<M> {
-    ghost use Rattle.std.specs.Prelude.{◌≡◌, ◌+◌, ◌<◌, ◌∷◌, [], ℕ, List, length, IfOk, OnOk, OnErr, IsErr, IsTrue};
+    ghost use Rattle.std.specs.Prelude.{◌+◌, ◌<◌, ◌∷◌, [], ℕ, List, length, IfOk, IfSome, OnOk, OnErr, IsErr};
     ghost use Rattle.hy_base.specs.Shape.{IsShape};
     ghost use Rattle.hy_base.specs.declared.limits.TheConstants.{MAX_EVENTS};
     ghost use Rattle.hy_trace.specs.declared.step.Step.{Step};
@@ -31,6 +33,9 @@ impl<M: Meta + Drop> WorldOver<M> {
     ghost use Rattle.hy_trace.specs.Messages.{messages_of};
     ghost use Rattle.hy_trace.specs.Schedule.{trace_of};
     ghost use Rattle.hy_world.specs.Schedules.{params_of, steps_with, HasTextValue};
+    ghost use Rattle.hy_record.specs.Clouds.{clouds_of};
+    ghost use Rattle.hy_trace.specs.Held.{HasLiars, held_of};
+    ghost use Rattle.hy_world.specs.Promises.{StaysRetrievable, StarvesOnlyOld, RefreshesAtMost, DeletesOnlyOld};
     ghost use Rattle.hy_world.specs.World.{StandsForSteps, IsBroken, events_taken};
 
     /// A store of these parameters in which nobody joined, with a service that served nothing and gave no id.
@@ -51,8 +56,24 @@ impl<M: Meta + Drop> WorldOver<M> {
 
     /// An event, which takes one step; a `Do` takes one, and one for each message that it delivers.
     ///
-    /// After want of memory each later event answers that too.
+    /// After want of memory each later event answers that too. The promises hold after each event, whatever it is.
     pub fn step(&mut self, alloc: Global, event: &Event) -> Result<(), NoMemory>
+        requires room { events_taken self.old < MAX_EVENTS }
+        requires short { HasTextValue event.now }
+        ensures ok { OnOk result ((p : TraceParams) (before : List Step) → StandsForSteps M.served M.given p before self.old → StandsForSteps M.served M.given p (steps_with p event.now before) self.new) }
+        ensures events { OnOk result (events_taken self.new ≡ events_taken self.old + 1) }
+        ensures err { OnErr result (IsBroken self.new) }
+        ensures broken { IsBroken self.old → IsErr result }
+        ensures retrievable { (p : TraceParams) (steps : List Step) → StandsForSteps M.served M.given p steps self.new → StaysRetrievable p (trace_of p steps) }
+        ensures starved { (p : TraceParams) (steps : List Step) → StandsForSteps M.served M.given p steps self.new → StarvesOnlyOld p (trace_of p steps) }
+        ensures refreshes { (p : TraceParams) (steps : List Step) → StandsForSteps M.served M.given p steps self.new → RefreshesAtMost p (trace_of p steps) }
+        ensures deletions { (p : TraceParams) (steps : List Step) → StandsForSteps M.served M.given p steps self.new → DeletesOnlyOld p (trace_of p steps) }
+    {
+        self.advance(alloc, event)
+    }
+
+    /// Takes the steps of an event.
+    fn advance(&mut self, alloc: Global, event: &Event) -> Result<(), NoMemory>
         requires room { events_taken self.old < MAX_EVENTS }
         requires short { HasTextValue event.now }
         ensures ok { OnOk result ((p : TraceParams) (before : List Step) → StandsForSteps M.served M.given p before self.old → StandsForSteps M.served M.given p (steps_with p event.now before) self.new) }
@@ -73,6 +94,15 @@ impl<M: Meta + Drop> WorldOver<M> {
                 Err(error)
             }
         }
+    }
+
+    /// The current version of the key, and the honest clouds of its record's list that hold valid bytes under its name; none where the
+    /// key has no record, or that of a deletion.
+    pub fn held(&self, key: &Key) -> Option<Held>
+        ensures value { (p : TraceParams) (steps : List Step) → StandsForSteps M.served M.given p steps self.now → result ≡ held_of p (trace_of p steps) key.now }
+        ensures enough { (p : TraceParams) (steps : List Step) → StandsForSteps M.served M.given p steps self.now → HasLiars p p.f → IfSome result (λ held. p.k ≤ length (clouds_of held.clouds)) }
+    {
+        self.simulation.machines.held(key)
     }
 
     /// How many messages were sent.

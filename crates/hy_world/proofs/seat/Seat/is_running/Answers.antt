@@ -1,6 +1,6 @@
 use Rattle.std.proofs.Common.{◌∙◌, ap, sym, Option}
 use Rattle.std.specs.Prelude.{is_some}
-use Rattle.hy_world.specs.declared.client.Running.{Running}
+use Rattle.hy_client.specs.declared.client.Running.{Running}
 use Rattle.hy_world.proofs.Seated.{running-is}
 use Rattle.hy_world.proofs.seat.Seat.is_running.Goals as goal
 

@@ -11,5 +11,5 @@ abbrev pub invariant-loop-i : goal.invariant-loop-i
 invariant-loop-i g l =
     record {
       count : l.self.log.steps ≡ l.fn.self.log.steps + l.i;
-      stands : (p : Params) (before : List Step) → HasBegun p l.client before → Replays g.M.Meta.served g.M.Meta.given p before l.fn.self → IsGiving g.row.M.Denot g.M.Meta.served g.M.Meta.given p before MAX_GIVES l.client l.first l.i l.self;
+      stands : (p : Params) (before : List Step) → HasBegun p l.client before → Replays g.M.Meta.served g.M.Meta.given p before l.fn.self → IsGiving g.M.Meta.served g.M.Meta.given p before MAX_GIVES l.client l.first l.i l.self;
     }
