@@ -9,7 +9,7 @@ use Rattle.hy_world.proofs.simulation.Simulation.take.Goals as goal
 pub returns-in_ok-take_do-in-Do-clause-stands : goal.returns-in_ok-take_do-in-Do-clause-stands
 unfolding steps_with
 returns-in_ok-take_do-in-Do-clause-stands g c = λ p before r.
-    subst (λ (e : Event). Replays g.M.Meta.served g.M.Meta.given p (steps_with p e before) c.take_do.new.self) (sym c.in-Do.is) (c.in_ok-take_do.ensures.stands c.in-Do._action.now c.in-Do.is p before r)
+    subst (λ (e : Event). Replays g.M.Meta.served g.M.Meta.given p (steps_with p e before) c.take_do.new.self) (sym c.in-Do.is) (c.in_ok-take_do-in-Do.ensures.stands c.in-Do._action c.in-Do.is p before r)
 
 pub returns-in_ok-take_first-in_default : goal.returns-in_ok-take_first-in_default
 returns-in_ok-take_first-in_default g c = record {
