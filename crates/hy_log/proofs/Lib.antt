@@ -1,1 +1,3 @@
+pub mod Coursing
 pub mod Keeping
+pub mod Padding

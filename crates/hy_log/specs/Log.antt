@@ -2,6 +2,9 @@
 use Rattle.std.specs.Prelude.{◌≡◌, ℕ, ◌+◌, ◌-◌, List, [], ◌∷◌, ◌++◌, length, map, slice_get, nat_lt, Option, Some, None, if◌then◌else◌}
 use Rattle.hy_trace.specs.Deeds.{Params, Deed}
 use Rattle.hy_trace.specs.Messages.{sent_at}
+use Rattle.hy_trace.specs.Trace.{IsTrace}
+use Rattle.hy_log.specs.declared.course.Course.{Course}
+use Rattle.hy_log.specs.Courses.{AreCourses}
 use Rattle.hy_log.specs.declared.post.Post.{Post}
 use Rattle.hy_log.specs.declared.post.Posted.{Posted}
 use Rattle.hy_log.specs.declared.effects.Beginning.{Beginning}
@@ -27,13 +30,14 @@ started_of [] = []
 started_of (d ∷ t) = started_of t ++ started (length t + 1) (beginning_at d)
 
 -- what is kept is that of the trace
-pub record LogKeeps (p : Params) (t : List Deed) (posts : List Posted) (starts : List Started) (steps : ℕ) : Type 0 where
+pub record LogKeeps (p : Params) (t : List Deed) (posts : List Posted) (starts : List Started) (courses : List (List Course)) (steps : ℕ) : Type 0 where
   pub posts_are : posts ≡ posted_of p t
   pub starts_are : starts ≡ started_of t
+  pub courses_are : IsTrace p t → AreCourses p t courses
   pub steps_are : steps ≡ length t
 
 abbrev pub Keeps : Log → Params → List Deed → Type 0
-Keeps log p t = LogKeeps p t log.posts.items log.starts.items log.steps
+Keeps log p t = LogKeeps p t log.posts.items log.starts.items log.courses log.steps
 
 -- the message of this number, with its step
 abbrev pub posted_at : ℕ → List Posted → Option Posted

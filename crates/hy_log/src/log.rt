@@ -6,7 +6,9 @@ ghost use Rattle.hy_trace.specs.Deeds.{Params as TraceParams, Deed};
 ghost use Rattle.hy_log.specs.Effects.{AreEffects};
 ghost use Rattle.hy_log.specs.Log.{Keeps, posted, started, posted_at};
 
+use crate::courses::Courses;
 use crate::effects::{Beginning, Effects};
+use crate::notes::{note_of_heard, note_of_return, note_of_update};
 use crate::post::{Post, Posted};
 use hy_base::NoMemory;
 use std::alloc::Global;
@@ -23,6 +25,7 @@ pub struct Started {
 pub struct Log {
     pub posts: Vec<Posted>,
     pub starts: Vec<Started>,
+    pub courses: Courses,
     pub steps: u64,
 }
 
@@ -34,6 +37,7 @@ impl Log {
         Log {
             posts: Vec::new(alloc),
             starts: Vec::new(alloc),
+            courses: Courses::new(alloc),
             steps: 0,
         }
     }
@@ -47,6 +51,9 @@ impl Log {
         let step = self.steps + 1;
         add_posts(&mut self.posts, step, effects.posts)?;
         add_start(&mut self.starts, step, effects.began)?;
+        self.courses.note(note_of_heard(effects.heard))?;
+        self.courses.note(note_of_return(step, effects.returned))?;
+        self.courses.note(note_of_update(effects.updated))?;
         self.steps = step;
         Ok(())
     }
