@@ -41,11 +41,11 @@ course-same r q f g v w m n x y a b d e h = cc
 
 -- ---- returns
 
-abbrev return_now : ℕ → Option Reply → Option Return
+abbrev pub return_now : ℕ → Option Reply → Option Return
 return_now at reply = option_map (λ (x : Reply). record { at = at; reply = x }) reply
 
 -- an operation without a return has no reply
-never-replied : (p : Params) (c o : ℕ) (t : List Deed) → return_of p c o t ≡ None → reply_of p c o t ≡ None
+pub never-replied : (p : Params) (c o : ℕ) (t : List Deed) → return_of p c o t ≡ None → reply_of p c o t ≡ None
 unfolding return_of reply_of start_of
 never-replied p c o [] none = refl
 never-replied p c o (d ∷ t) none = by (return_of p c o t) (reply_after p c o (inputs_of c o (d ∷ t)) (start_of c o (d ∷ t))) none

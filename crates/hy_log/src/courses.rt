@@ -1,8 +1,7 @@
 //! The courses of the operations of all clients.
 
-ghost use Rattle.std.specs.Prelude.{◌≡◌, ◌<◌, ◌==◌, ℕ, [], length, slice_get, OnOk, if◌then◌else◌};
-ghost use Rattle.std.specs.Option.{option_copied};
-ghost use Rattle.hy_log.specs.Courses.{course_in, course_at, noted, noted_by};
+ghost use Rattle.std.specs.Prelude.{◌≡◌, ◌<◌, ◌==◌, ℕ, [], length, OnOk, IfSome, IfNone, if◌then◌else◌};
+ghost use Rattle.hy_log.specs.Courses.{fresh, course_in, course_at, noted, noted_by};
 
 use crate::course::{Course, News};
 use crate::notes::Note;
@@ -36,8 +35,9 @@ impl ClientCourses {
     }
 
     /// The course of the operation of this number; none where nothing was noted of it.
-    pub(crate) fn get(&self, op: u32) -> Option<&Course>
-        ensures { option_copied result ≡ slice_get self.now op }
+    fn get(&self, op: u32) -> Option<&Course>
+        ensures some { IfSome result (λ course. course.now ≡ course_in self.now op) }
+        ensures none { IfNone result (course_in self.now op ≡ fresh) }
     {
         self.courses.get(op as usize)
     }
@@ -87,6 +87,15 @@ impl Courses {
         Courses {
             clients: Vec::new(alloc),
         }
+    }
+
+    /// The course of an operation; none where nothing was noted of it.
+    pub(crate) fn get(&self, client: u32, op: u32) -> Option<&Course>
+        ensures some { IfSome result (λ course. course.now ≡ course_at self.now client op) }
+        ensures none { IfNone result (course_at self.now client op ≡ fresh) }
+    {
+        let courses = self.clients.get(client as usize)?;
+        courses.get(op)
     }
 
     /// Notes what an operation meets, if it meets something.

@@ -1,9 +1,11 @@
 //! What is kept of the steps of a store: the messages, and the operations with what a report tells of them.
 #![tactic(auto)]
 
+mod copies;
 mod course;
 mod courses;
 mod effects;
+mod history;
 mod log;
 mod notes;
 mod post;
