@@ -8,6 +8,7 @@ mod effects;
 mod history;
 mod log;
 mod notes;
+mod orders;
 mod post;
 
 pub use course::{Course, Returned};
