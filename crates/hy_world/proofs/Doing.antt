@@ -28,8 +28,8 @@ use Rattle.hy_world.specs.declared.machines.Machines.{Machines}
 use Rattle.hy_world.specs.declared.simulation.Simulation.{Simulation}
 use Rattle.hy_log.specs.Effects.{AreEffects, post_of}
 use Rattle.hy_log.specs.Log.{Keeps, posted, posted_at, posted_of, started_of}
-use Rattle.hy_world.specs.declared.event.Event.{Event}
-use Rattle.hy_world.specs.declared.event.Event.TheVariants as events
+use Rattle.hy_sched.specs.declared.event.Event.{Event}
+use Rattle.hy_sched.specs.declared.event.Event.TheVariants as events
 use Rattle.hy_world.specs.declared.nodes.Nodes.{Nodes}
 use Rattle.hy_world.specs.Schedules.{first_step, steps_with}
 use Rattle.hy_world.specs.Nodes.{HasBegun, HasBegunIn, Does}

@@ -6,3 +6,5 @@ pub mod Doing
 pub mod Promising
 pub mod Holding
 pub mod Progressing
+pub mod PutBytes
+pub mod Reports

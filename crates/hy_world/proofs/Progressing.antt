@@ -14,12 +14,12 @@ use Rattle.hy_operation.specs.declared.progress.Progress.{Progress}
 use Rattle.hy_client.specs.declared.client.Running.{Running}
 use Rattle.hy_client.specs.Clients.{running_of}
 use Rattle.hy_trace.specs.Deeds.{Params, Deed, Start, begun, joined, start_of, inputs_of, reply_of, reply_after}
-use Rattle.hy_world.specs.declared.event.Params.{Params as StoreParams}
+use Rattle.hy_sched.specs.declared.params.Params.{Params as StoreParams}
 use Rattle.hy_world.specs.declared.seat.Seat.{Seat}
 use Rattle.hy_world.specs.declared.nodes.Nodes.{Nodes}
 use Rattle.hy_world.specs.Nodes.{action_of, session_of, NodesStand}
 use Rattle.hy_world.specs.Seats.{StandsForSeat}
-use Rattle.hy_world.specs.Progress.{told_progress, AreRunning}
+use Rattle.hy_log.specs.History.{told_progress, AreRunning}
 use Rattle.hy_world.proofs.Standing.{Standing}
 
 -- what a client tells of its running operation

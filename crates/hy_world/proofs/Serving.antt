@@ -20,7 +20,7 @@ use Rattle.hy_trace.specs.Deeds.{Params, Deed, Joined, Served, Nothing, served, 
 use Rattle.hy_trace.specs.Messages.{Message, Ask, Say, Request, Answer, sent_at}
 use Rattle.hy_trace.specs.Schedule.{delivery, hand, deed_of}
 use Rattle.hy_trace.specs.Trace.{IsTrace}
-use Rattle.hy_world.specs.declared.event.Params.{Params as StoreParams}
+use Rattle.hy_sched.specs.declared.params.Params.{Params as StoreParams}
 use Rattle.hy_world.specs.declared.seat.Seat.{Seat}
 use Rattle.hy_log.specs.declared.post.Post.{Post}
 use Rattle.hy_log.specs.declared.post.Post.TheVariants as posts

@@ -27,7 +27,7 @@ use Rattle.hy_trace.specs.Messages.{Message, Ask, Say, Request, Answer, sent_at,
 use Rattle.hy_trace.specs.Schedule.{delivery, hand, is_free, deed_of}
 use Rattle.hy_trace.specs.Trace.{IsTrace}
 use Rattle.hy_trace.proofs.Steps.{free-idle}
-use Rattle.hy_world.specs.declared.event.Params.{Params as StoreParams}
+use Rattle.hy_sched.specs.declared.params.Params.{Params as StoreParams}
 use Rattle.hy_log.specs.declared.post.Post.{Post}
 use Rattle.hy_log.specs.declared.post.Post.TheVariants as posts
 use Rattle.hy_world.specs.declared.seat.Seat.{Seat}

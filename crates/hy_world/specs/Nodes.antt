@@ -13,7 +13,7 @@ use Rattle.hy_trace.specs.declared.step.Step.{Step}
 use Rattle.hy_trace.specs.Deeds.{Params, Deed, Start, served, granted, inputs_of, start_of, begun, joined, stops, is_joined}
 use Rattle.hy_trace.specs.Schedule.{client_of, trace_of}
 use Rattle.hy_trace.specs.Trace.{IsTrace}
-use Rattle.hy_world.specs.declared.event.Params.{Params as StoreParams}
+use Rattle.hy_sched.specs.declared.params.Params.{Params as StoreParams}
 use Rattle.hy_world.specs.declared.seat.Seat.{Seat}
 use Rattle.hy_world.specs.declared.nodes.Nodes.{Nodes}
 use Rattle.hy_log.specs.declared.effects.Effects.{Effects}

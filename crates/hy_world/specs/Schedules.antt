@@ -1,20 +1,24 @@
 -- What the events of a schedule are to a trace.
-use Rattle.std.specs.Prelude.{ℕ, ◌≤◌, Bool, ◌||◌, ◌==◌, nat_le, List, [], ◌∷◌}
-use Rattle.std.specs.Int.{bit_at}
+use Rattle.std.specs.Prelude.{ℕ, ◌≤◌, Bool, ◌||◌, nat_le, List, [], ◌∷◌}
 use Rattle.hy_base.specs.declared.limits.TheConstants.{MAX_TEXT_VALUE}
 use Rattle.hy_base.specs.Shape.{cloud_count}
 use Rattle.hy_trace.specs.declared.step.Step.{Step}
 use Rattle.hy_trace.specs.declared.step.Step.TheVariants as steps
-use Rattle.hy_trace.specs.Deeds.{Params}
+use Rattle.hy_trace.specs.Deeds.{Params, Deed}
 use Rattle.hy_trace.specs.Doing.{with_do}
-use Rattle.hy_world.specs.declared.event.Params.{Params as StoreParams}
-use Rattle.hy_world.specs.declared.event.Event.{Event}
-use Rattle.hy_world.specs.declared.event.Event.TheVariants as events
+use Rattle.hy_sched.specs.declared.params.Params.{Params as StoreParams}
+use Rattle.hy_sched.specs.declared.event.Event.{Event}
+use Rattle.hy_sched.specs.declared.event.Event.TheVariants as events
+use Rattle.hy_sched.specs.declared.schedule.Schedule.{Schedule}
+use Rattle.hy_sched.specs.Params.{is_liar}
+use Rattle.hy_order.specs.declared.report.Report.{Report}
+use Rattle.hy_trace.specs.Schedule.{trace_of}
+use Rattle.hy_trace.specs.Report.{report_of}
 use Rattle.hy_world.specs.Seats.{value_size}
 
 -- the cloud is Byzantine; so is each that the store has not, since nothing that it is asked has an effect
 unfoldable pub is_liar_of : StoreParams → ℕ → Bool
-is_liar_of params cloud = nat_le (cloud_count params.f params.k) cloud || (bit_at params.liars cloud == 1)
+is_liar_of params cloud = nat_le (cloud_count params.f params.k) cloud || is_liar params cloud
 
 -- the parameters of the store, as a trace has them
 abbrev pub params_of : StoreParams → Params
@@ -54,3 +58,11 @@ HasTextValue (events.Give number) = Unit {0}
 HasTextValue (events.Lie cloud client op key stamp say) = Unit {0}
 HasTextValue (events.Tick client) = Unit {0}
 HasTextValue (events.Stop client) = Unit {0}
+
+-- the trace of a schedule
+abbrev pub trace_of_schedule : Schedule → List Deed
+trace_of_schedule schedule = trace_of (params_of schedule.params) (steps_of (params_of schedule.params) schedule.events [])
+
+-- the report of a schedule
+abbrev pub report_of_schedule : Schedule → Report
+report_of_schedule schedule = report_of (params_of schedule.params) (trace_of_schedule schedule)

@@ -28,9 +28,17 @@ pub record ReplaysBy {M : Type 0} (serves : M → List MetaAsk → Type 0) (give
 abbrev pub Replays : {M : Type 0} → (M → List MetaAsk → Type 0) → (M → ℕ) → Params → List Step → Simulation M → Type 0
 Replays serves given p steps simulation = ReplaysBy serves given p steps simulation.machines simulation.log
 
+-- they stand for the trace of some steps
+abbrev pub ReplaysSome : {M : Type 0} → (M → List MetaAsk → Type 0) → (M → ℕ) → Simulation M → Type 0
+ReplaysSome serves given simulation = (p : Params) × (steps : List Step) × Replays serves given p steps simulation
+
 -- the world stands for the trace of the steps, the newest of which comes first
 abbrev pub StandsForSteps : {M : Type 0} → (M → List MetaAsk → Type 0) → (M → ℕ) → Params → List Step → WorldOver M → Type 0
 StandsForSteps serves given p steps world = Replays serves given p steps world.simulation
+
+-- the world stands for the trace of some steps: it has not met want of memory
+abbrev pub StandsForSome : {M : Type 0} → (M → List MetaAsk → Type 0) → (M → ℕ) → WorldOver M → Type 0
+StandsForSome serves given world = ReplaysSome serves given world.simulation
 
 -- the world met want of memory
 abbrev pub IsBroken : {M : Type 0} → WorldOver M → Type 0

@@ -3,14 +3,19 @@
 
 mod cloud_set;
 mod copies;
-mod event;
 mod holders;
 mod machines;
 mod nodes;
 mod progress;
+
+mod reporting;
+mod run;
 mod seat;
 mod simulation;
 mod world;
 
-pub use event::{Event, Params};
+pub use run::{replay, replay_over};
 pub use world::{World, WorldOver};
+
+#[cfg(test)]
+mod tests;

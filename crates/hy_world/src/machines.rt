@@ -16,7 +16,7 @@ ghost use Rattle.hy_world.specs.Nodes.{addressee, NodesStand};
 ghost use Rattle.hy_world.specs.Machines.{MachinesStand, MachinesDo};
 
 use hy_log::{Effects, Updated};
-use crate::event::Params;
+use hy_sched::Params;
 use crate::nodes::Nodes;
 use hy_log::{Post, posts_of_says};
 use hy_base::NoMemory;

@@ -6,7 +6,7 @@ ghost use Rattle.hy_base.specs.Shape.{IsShape, cloud_count};
 use hy_client::Client;
 use crate::copies::copy_of_action;
 use hy_log::{Beginning, Effects, return_of};
-use crate::event::Params;
+use hy_sched::Params;
 use hy_log::{Post, posts_of};
 use crate::seat::Seat;
 use hy_base::{NoMemory, cloud_count};

@@ -3,7 +3,7 @@
 ghost use Rattle.std.specs.Prelude.{List, IfOk};
 ghost use Rattle.hy_trace.specs.Deeds.{Params as TraceParams, Deed};
 ghost use Rattle.hy_world.specs.Nodes.{NodesStand};
-ghost use Rattle.hy_world.specs.Progress.{AreRunning};
+ghost use Rattle.hy_log.specs.History.{AreRunning};
 
 use crate::nodes::Nodes;
 use hy_base::NoMemory;

@@ -8,7 +8,7 @@ ghost use Rattle.hy_protocol.specs.Inputs.{has_of};
 ghost use Rattle.hy_protocol.specs.Operations.{key_of};
 ghost use Rattle.hy_protocol.specs.Session.{Session, session_after, session_turn, session_invoked, session_stopped, invoked_sends, is_idle, is_running, session_progress, takes};
 ghost use Rattle.hy_client.specs.Clients.{running_of};
-ghost use Rattle.hy_world.specs.Progress.{told_progress};
+ghost use Rattle.hy_log.specs.History.{told_progress};
 ghost use Rattle.hy_world.specs.Seats.{StandsForSeat, begun_at, value_size, is_no_memory, heard_by};
 
 use hy_client::{Client, InvokeFault};

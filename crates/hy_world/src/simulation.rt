@@ -8,14 +8,14 @@ ghost use Rattle.hy_trace.specs.Deeds.{Params as TraceParams, Deed};
 ghost use Rattle.hy_trace.specs.Schedule.{deed_of};
 ghost use Rattle.hy_trace.specs.Doing.{goes_on, with_gives, with_do};
 ghost use Rattle.hy_record.specs.declared.action.Action.{Action};
-ghost use Rattle.hy_world.specs.declared.event.Event.TheVariants as events;
+ghost use Rattle.hy_sched.specs.declared.event.Event.TheVariants as events;
 ghost use Rattle.hy_world.specs.Schedules.{params_of, first_step, steps_with, HasTextValue};
 ghost use Rattle.hy_world.specs.Nodes.{HasBegun};
 ghost use Rattle.hy_world.specs.World.{Replays, DoesBy};
 
 use crate::copies::copy_of_say;
 use hy_log::Effects;
-use crate::event::{Event, Params};
+use hy_sched::{Event, Params};
 use hy_log::Log;
 use crate::machines::Machines;
 use hy_base::NoMemory;

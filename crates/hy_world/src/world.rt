@@ -2,11 +2,11 @@
 
 ghost use Rattle.std.specs.Prelude.{◌≡◌, ◌*◌, ◌≤◌, false};
 
-use crate::event::{Event, Params};
+use hy_sched::{Event, Params};
 use crate::simulation::Simulation;
 use hy_base::NoMemory;
 use hy_meta::{Meta, Service};
-use hy_order::Held;
+use hy_order::{Held, History, Report};
 use hy_record::Key;
 use std::alloc::Global;
 
@@ -35,8 +35,10 @@ impl<M: Meta + Drop> WorldOver<M> {
     ghost use Rattle.hy_world.specs.Schedules.{params_of, steps_with, HasTextValue};
     ghost use Rattle.hy_record.specs.Clouds.{clouds_of};
     ghost use Rattle.hy_trace.specs.Held.{HasLiars, held_of};
+    ghost use Rattle.hy_trace.specs.History.{history_of};
+    ghost use Rattle.hy_trace.specs.Report.{report_of};
     ghost use Rattle.hy_world.specs.Promises.{StaysRetrievable, StarvesOnlyOld, RefreshesAtMost, DeletesOnlyOld};
-    ghost use Rattle.hy_world.specs.World.{StandsForSteps, IsBroken, events_taken};
+    ghost use Rattle.hy_world.specs.World.{StandsForSteps, StandsForSome, IsBroken, events_taken};
 
     /// A store of these parameters in which nobody joined, with a service that served nothing and gave no id.
     pub fn with(alloc: Global, params: &Params, service: M) -> Result<WorldOver<M>, NoMemory>
@@ -105,6 +107,24 @@ impl<M: Meta + Drop> WorldOver<M> {
         self.simulation.machines.held(key)
     }
 
+    /// The operations that began, each with its reply or how far it is.
+    pub fn history(&self, alloc: Global) -> Result<History, NoMemory>
+        requires { StandsForSome M.served M.given self.now }
+        ensures { IfOk result (λ history. (p : TraceParams) (steps : List Step) → StandsForSteps M.served M.given p steps self.now → history ≡ history_of p (trace_of p steps)) }
+    {
+        let history = self.simulation.history(alloc)?;
+        Ok(history)
+    }
+
+    /// The history, an order for each key of a put, get or delete, and the copies of the current versions of these keys.
+    pub fn report(&self, alloc: Global) -> Result<Report, NoMemory>
+        requires { StandsForSome M.served M.given self.now }
+        ensures { IfOk result (λ report. (p : TraceParams) (steps : List Step) → StandsForSteps M.served M.given p steps self.now → report ≡ report_of p (trace_of p steps)) }
+    {
+        let report = self.simulation.report(alloc)?;
+        Ok(report)
+    }
+
     /// How many messages were sent.
     pub fn sent(&self) -> u64
         ensures { (p : TraceParams) (steps : List Step) → StandsForSteps M.served M.given p steps self.now → result ≡ length (messages_of p (trace_of p steps)) }
@@ -117,5 +137,23 @@ impl<M: Meta + Drop> WorldOver<M> {
         ensures { (p : TraceParams) (steps : List Step) → StandsForSteps M.served M.given p steps self.now → result ≡ length steps }
     {
         self.simulation.log.steps
+    }
+}
+
+impl WorldOver<Service> {
+    ghost use Rattle.std.specs.Prelude.{[], IfOk};
+    ghost use Rattle.hy_base.specs.Shape.{IsShape};
+    ghost use Rattle.hy_world.specs.Schedules.{params_of};
+    ghost use Rattle.hy_world.specs.World.{StandsForSteps, events_taken};
+
+    /// A store of these parameters in which nobody joined, with the first metadata service.
+    pub fn new(alloc: Global, params: &Params) -> Result<WorldOver<Service>, NoMemory>
+        requires { IsShape params.now.f params.now.k }
+        ensures stands { let meta = ⟦<Service as Meta>⟧ in IfOk result (StandsForSteps meta.served meta.given (params_of params.now) []) }
+        ensures events { IfOk result (λ world. events_taken world ≡ 0) }
+    {
+        let service = Service::new(alloc)?;
+        let world = WorldOver::with(alloc, params, service)?;
+        Ok(world)
     }
 }

@@ -1,7 +1,7 @@
 use Rattle.std.proofs.Common.{rules, subst, sym, List, ◌∷◌}
 use Rattle.hy_trace.specs.declared.step.Step.{Step}
 use Rattle.hy_trace.specs.declared.step.Step.TheVariants as steps
-use Rattle.hy_world.specs.declared.event.Event.{Event}
+use Rattle.hy_sched.specs.declared.event.Event.{Event}
 use Rattle.hy_world.specs.Schedules.{first_step}
 use Rattle.hy_world.specs.World.{Replays}
 use Rattle.hy_world.proofs.Doing.{do-began, do-refused}
