@@ -8,6 +8,9 @@ mod effects;
 mod history;
 mod log;
 mod notes;
+mod orders;
+mod place;
+mod places;
 mod post;
 
 pub use course::{Course, Returned};
