@@ -23,10 +23,10 @@ quiet-append : (front a b : List ℕ) → IsQuiet front a → IsQuiet (front ++ 
 quiet-append front a b one other n some within =
     elim (cases_lt (length a) n) [
       | inl more ↦
-        let m = n - length a in
-        let is : length a + m ≡ n = omega arith in
-        let cut : front ++ take n (a ++ b) ≡ (front ++ a) ++ take m b = ap (λ (k : ℕ). front ++ take k (a ++ b)) (sym is) ∙ ap (λ (t : List ℕ). front ++ t) (take-append-add a b m) ∙ sym (append_assoc front a (take m b)) in
-        ap ends_head cut ∙ other m (omega arith) (omega (arith, length-append a b))
+          let m = n - length a in
+          let is : length a + m ≡ n = omega arith in
+          let cut : front ++ take n (a ++ b) ≡ (front ++ a) ++ take m b = ap (λ (k : ℕ). front ++ take k (a ++ b)) (sym is) ∙ ap (λ (t : List ℕ). front ++ t) (take-append-add a b m) ∙ sym (append_assoc front a (take m b)) in
+          ap ends_head cut ∙ other m (omega arith) (omega (arith, length-append a b))
       | inr less ↦ ap (λ (t : List ℕ). ends_head (front ++ t)) (take-append-le n a b less) ∙ one n some less
     ]
 
@@ -52,12 +52,12 @@ quiet-line_end : (front : List ℕ) (x : ℕ) → x ≢ 10 → IsQuiet (front ++
 quiet-line_end front x other n some within =
     elim (cases_lt 1 n) [
       | inl more ↦
-        let two : n ≡ 2 = omega (arith, within) in
-        ap (λ (k : ℕ). ends_head ((front ++ x ∷ []) ++ take k (13 ∷ 10 ∷ []))) two ∙ ap ends_head (append_assoc front (x ∷ []) (13 ∷ 10 ∷ [])) ∙ no-end-of-line front x other
+          let two : n ≡ 2 = omega (arith, within) in
+          ap (λ (k : ℕ). ends_head ((front ++ x ∷ []) ++ take k (13 ∷ 10 ∷ []))) two ∙ ap ends_head (append_assoc front (x ∷ []) (13 ∷ 10 ∷ [])) ∙ no-end-of-line front x other
       | inr less ↦
-        let one : n ≡ 1 = omega arith in
-        let cr : 13 ≢ 10 = λ e. omega (arith, e) in
-        ap (λ (k : ℕ). ends_head ((front ++ x ∷ []) ++ take k (13 ∷ 10 ∷ []))) one ∙ no_end (front ++ x ∷ []) 13 cr
+          let one : n ≡ 1 = omega arith in
+          let cr : 13 ≢ 10 = λ e. omega (arith, e) in
+          ap (λ (k : ℕ). ends_head ((front ++ x ∷ []) ++ take k (13 ∷ 10 ∷ []))) one ∙ no_end (front ++ x ∷ []) 13 cr
     ]
 
 -- a line that is not empty

@@ -60,8 +60,8 @@ name-one target a b one other =
     let all : (a.0, (a.1.sn, a.1.cid)) ≡ (b.0, (b.1.sn, b.1.cid)) = cc in
     ap made all
   where
-  made : List ℕ × (ℕ × ℕ) → Name
-  made p = (p.0, record { sn = p.1.0; cid = p.1.1 })
+    made : List ℕ × (ℕ × ℕ) → Name
+    made p = (p.0, record { sn = p.1.0; cid = p.1.1 })
 
 names-one : (target : List ℕ) (a b : Option Name) → NameIs target a → NameIs target b → a ≡ b
 names-one target (Some a) (Some b) one other = ap Some (name-one target a b one other)

@@ -26,12 +26,7 @@ pub fn write_ask(alloc: Global, wish: &Wish, port: u16) -> Result<Blob, NoMemory
 }
 
 /// Writes the request about the object of this name.
-fn push_act(
-    out: &mut Vec<u8>,
-    act: &CloudAct,
-    name: &[u8],
-    port: u16,
-) -> Result<(), NoMemory>
+fn push_act(out: &mut Vec<u8>, act: &CloudAct, name: &[u8], port: u16) -> Result<(), NoMemory>
     requires { IsSendableAct act.now }
     ensures { OnOk result (out.new.items ≡ out.old.items ++ act_bytes act.now (name.now ++ host_line port)) }
 {
