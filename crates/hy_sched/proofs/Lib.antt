@@ -1,0 +1,4 @@
+pub mod HeaderRows
+pub mod SayRows
+pub mod EventRows
+pub mod ScheduleLaws
