@@ -1,2 +1,3 @@
 pub mod Doubling
 pub mod RowLemmas
+pub mod Halves

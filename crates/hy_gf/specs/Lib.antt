@@ -2,3 +2,4 @@ pub mod Field
 pub mod Gf
 pub mod GfLaws
 pub mod Row
+pub mod Tables

@@ -97,7 +97,7 @@ impl Gf {
 }
 
 /// The product of x and the byte's polynomial.
-fn doubled(byte: u8) -> u8
+pub(crate) fn doubled(byte: u8) -> u8
     ensures { result ≡ gf_product 2 byte }
 {
     if byte < 128 {

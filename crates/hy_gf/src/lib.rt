@@ -4,10 +4,12 @@
 mod field;
 mod gf;
 mod row;
+mod tables;
 
 pub use field::Field;
 pub use gf::Gf;
 pub use row::mul_add;
+pub use tables::Tables;
 
 #[cfg(test)]
 mod tests;
