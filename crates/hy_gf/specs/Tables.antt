@@ -1,5 +1,5 @@
 -- The products of a factor with the halves of a byte.
-use Rattle.std.specs.Prelude.{◌≡◌, ℕ, ◌*◌, ◌<◌, List, map, slice_index, length}
+use Rattle.std.specs.Prelude.{◌≡◌, ℕ, List, map}
 use Rattle.std.specs.List.{range_with_len}
 use Rattle.hy_gf.specs.Gf.{IsElement, gf_product}
 

@@ -8,7 +8,7 @@ use crate::field::Field;
 use std::marker::Model;
 
 /// The low byte of x^8 + x^4 + x^3 + x^2 + 1, the polynomial that products are reduced by.
-const REDUCTION: u8 = 0x1D;
+pub(crate) const REDUCTION: u8 = 0x1D;
 
 /// An element: the polynomial over bits whose coefficient of x^i is bit i of a byte.
 #[derive(Clone, Copy, Debug, PartialEq, Eq)]

@@ -3,8 +3,11 @@
 
 mod field;
 mod gf;
+mod lanes;
+mod products;
 mod row;
 mod tables;
+mod terms;
 
 pub use field::Field;
 pub use gf::Gf;

@@ -1,11 +1,14 @@
 //! The products of a factor with all bytes, by two look-ups.
 
-ghost use Rattle.std.specs.Prelude.{◌≡◌, map};
+ghost use Rattle.std.specs.Prelude.{◌≡◌, slice_index};
 ghost use Rattle.hy_gf.specs.Gf.{gf_product};
+ghost use Rattle.hy_gf.specs.Lanes.{HasLanes};
 ghost use Rattle.hy_gf.specs.Tables.{half_products};
 
 use crate::gf::{Gf, doubled};
+use crate::lanes::{by_lower_half, by_upper_half, sums, twice};
 use std::marker::Model;
+use std::simd::prelude::*;
 
 /// A factor, which contracts see as its byte, with its products with each half of a byte.
 #[derive(Debug, Drop)]
@@ -43,6 +46,16 @@ impl Tables {
         ensures { result ≡ gf_product self.now byte }
     {
         self.low[(byte % 16) as usize] ^ self.high[(byte / 16) as usize]
+    }
+
+    /// The products of the factor, lane by lane.
+    #[inline(always)]
+    pub(crate) fn lanes(&self, lanes: u8x32) -> u8x32
+        ensures { HasLanes result (λ k. gf_product self.now (slice_index lanes k)) }
+    {
+        let lower = by_lower_half(twice(&self.low), lanes);
+        let upper = by_upper_half(twice(&self.high), lanes);
+        sums(lower, upper)
     }
 }
 
