@@ -1,5 +1,6 @@
 -- Rows to which terms are added, place by place.
 use Rattle.std.proofs.Common.{◌≡◌, ℕ, zero, suc, ◌+◌, ◌-◌, ◌<◌, ◌≤◌, List, [], ◌∷◌, length, get_or, set, length-set, refl, sym, ap, ◌∙◌, arith, inl, inr}
+use Rattle.std.specs.Int.Bits.{bit_xor, xor_assoc}
 use Rattle.std.specs.Simd.Lanes.{chunk, put_chunk, zip2}
 use Rattle.std.proofs.lemmas.Bool.{cases_lt}
 use Rattle.std.proofs.lemmas.Grind.{same_number_lists, get_or-set_at}
@@ -75,3 +76,47 @@ row_added term factor row before after same product all =
     all.added place inside
     ∙ ap (gf_sum (get_or before place 0)) (product place inside)
     ∙ sym (get_or-row_sum factor place row before inside same))
+
+regrouped : (x a b c d : ℕ) → bit_xor x (bit_xor (bit_xor a b) (bit_xor c d)) ≡ bit_xor (bit_xor (bit_xor (bit_xor x a) b) c) d
+regrouped x a b c d =
+    sym (xor_assoc (bit_xor (bit_xor x a) b) c d
+    ∙ ap (λ y. bit_xor y (bit_xor c d)) (xor_assoc x a b)
+    ∙ xor_assoc x (bit_xor a b) (bit_xor c d))
+
+-- the terms are the sums of four products
+module _ (fa fb fc fd : ℕ) (a b c d before : List ℕ) (same_a : length a ≡ length before) (same_b : length b ≡ length before) (same_c : length c ≡ length before) (same_d : length d ≡ length before) where
+  abbrev one : List ℕ
+  one = row_sum fa a before
+
+  abbrev two : List ℕ
+  two = row_sum fb b one
+
+  abbrev three : List ℕ
+  three = row_sum fc c two
+
+  length-one : length one ≡ length before
+  length-one = length-row_sum fa a before
+
+  length-two : length two ≡ length before
+  length-two = length-row_sum fb b one ∙ length-one
+
+  length-three : length three ≡ length before
+  length-three = length-row_sum fc c two ∙ length-two
+
+  at_three : (place : ℕ) → place < length before → get_or three place 0 ≡ gf_sum (gf_sum (gf_sum (get_or before place 0) (gf_product fa (get_or a place 0))) (gf_product fb (get_or b place 0))) (gf_product fc (get_or c place 0))
+  at_three place within =
+      get_or-row_sum fc place c two (omega (arith, length-two)) (same_c ∙ sym length-two)
+      ∙ ap (λ x. gf_sum x (gf_product fc (get_or c place 0)))
+      (get_or-row_sum fb place b one (omega (arith, length-one)) (same_b ∙ sym length-one)
+      ∙ ap (λ x. gf_sum x (gf_product fb (get_or b place 0))) (get_or-row_sum fa place a before within same_a))
+
+  pub four_added : (term : ℕ → ℕ) (after : List ℕ) → ((place : ℕ) → term place ≡ gf_sum (gf_sum (gf_product fa (get_or a place 0)) (gf_product fb (get_or b place 0))) (gf_sum (gf_product fc (get_or c place 0)) (gf_product fd (get_or d place 0)))) → IsAdded term (length before) before after → after ≡ row_sum fd d three
+  four_added term after sum all =
+      same_number_lists after (row_sum fd d three) (all.length_same ∙ sym (length-row_sum fd d three ∙ length-three))
+      (λ place within.
+      let inside : place < length before = omega (arith, all.length_same) in
+      all.added place inside
+      ∙ ap (gf_sum (get_or before place 0)) (sum place)
+      ∙ regrouped (get_or before place 0) (gf_product fa (get_or a place 0)) (gf_product fb (get_or b place 0)) (gf_product fc (get_or c place 0)) (gf_product fd (get_or d place 0))
+      ∙ sym (get_or-row_sum fd place d three (omega (arith, length-three)) (same_d ∙ sym length-three)
+      ∙ ap (λ x. gf_sum x (gf_product fd (get_or d place 0))) (at_three place inside)))

@@ -11,7 +11,7 @@ mod terms;
 
 pub use field::Field;
 pub use gf::Gf;
-pub use row::{mul_add, mul_add_by_doublings};
+pub use row::{Product, mul_add, mul_add_by_doublings, mul_add_four};
 pub use tables::Tables;
 
 #[cfg(test)]

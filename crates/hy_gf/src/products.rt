@@ -1,7 +1,7 @@
 //! Products of a row, as rows that can be added.
 
-ghost use Rattle.std.specs.Prelude.{◌≡◌, ◌/◌, ◌^◌, length, slice_index};
-ghost use Rattle.hy_gf.specs.Gf.{gf_product};
+ghost use Rattle.std.specs.Prelude.{◌≡◌, length, min, slice_index};
+ghost use Rattle.hy_gf.specs.Gf.{gf_sum, gf_product};
 ghost use Rattle.hy_gf.specs.Lanes.{HasLanes};
 
 use crate::gf::Gf;
@@ -28,6 +28,13 @@ pub(crate) struct Looked<'a> {
 pub(crate) struct Doubled<'a> {
     pub(crate) row: &'a [u8],
     pub(crate) factor: Gf,
+}
+
+/// The sum of two rows.
+#[derive(Drop)]
+pub(crate) struct Both<A, B> {
+    pub(crate) first: A,
+    pub(crate) second: B,
 }
 
 impl Terms for Once<'_> {
@@ -75,6 +82,22 @@ impl Terms for Doubled<'_> {
     #[inline(always)]
     fn lanes(&self, place: usize) -> u8x32 {
         times_by_doubling(self.factor, loaded(self.row, place))
+    }
+}
+
+impl<A: Terms, B: Terms> Terms for Both<A, B> {
+    ghost count = { λ both. min (A.count both.first) (B.count both.second) };
+
+    ghost term = { λ both place. gf_sum (A.term both.first place) (B.term both.second place) };
+
+    #[inline(always)]
+    fn byte(&self, place: usize) -> u8 {
+        self.first.byte(place) ^ self.second.byte(place)
+    }
+
+    #[inline(always)]
+    fn lanes(&self, place: usize) -> u8x32 {
+        sums(self.first.lanes(place), self.second.lanes(place))
     }
 }
 
