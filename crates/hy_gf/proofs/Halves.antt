@@ -44,11 +44,11 @@ module _ (f one two four eight : ℕ) (p : f < 256) (is_one : one ≡ f) (is_two
   at_12 = adds f 4 8 four eight at_4 at_8
 
   pub all_sums : ◌≡◌ {A = List ℕ} (
-    0 ∷ one ∷ two ∷ bit_xor one two
-    ∷ four ∷ bit_xor four one ∷ bit_xor four two ∷ bit_xor four (bit_xor one two)
-    ∷ eight ∷ bit_xor eight one ∷ bit_xor eight two ∷ bit_xor eight (bit_xor one two)
-    ∷ bit_xor four eight ∷ bit_xor (bit_xor four eight) one ∷ bit_xor (bit_xor four eight) two ∷ bit_xor (bit_xor four eight) (bit_xor one two) ∷ []
-  ) (half_products f)
+      0 ∷ one ∷ two ∷ bit_xor one two
+      ∷ four ∷ bit_xor four one ∷ bit_xor four two ∷ bit_xor four (bit_xor one two)
+      ∷ eight ∷ bit_xor eight one ∷ bit_xor eight two ∷ bit_xor eight (bit_xor one two)
+      ∷ bit_xor four eight ∷ bit_xor (bit_xor four eight) one ∷ bit_xor (bit_xor four eight) two ∷ bit_xor (bit_xor four eight) (bit_xor one two) ∷ []
+      ) (half_products f)
   all_sums = λ i.
       at_0 i ∷ at_1 i ∷ at_2 i ∷ at_3 i
       ∷ at_4 i ∷ adds f 4 1 four one at_4 at_1 i ∷ adds f 4 2 four two at_4 at_2 i ∷ adds f 4 3 four (bit_xor one two) at_4 at_3 i

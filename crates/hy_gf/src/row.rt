@@ -46,7 +46,7 @@ pub fn mul_add_four(a: &Product, b: &Product, c: &Product, d: &Product, out: &mu
     requires d { length d.now.row.now ≡ length out.old }
     ensures { out.new
         ≡ row_sum d.now.factor d.now.row.now (row_sum c.now.factor c.now.row.now
-            (row_sum b.now.factor b.now.row.now (row_sum a.now.factor a.now.row.now out.old))) }
+        (row_sum b.now.factor b.now.row.now (row_sum a.now.factor a.now.row.now out.old))) }
 {
     let first = Both {
         first: looked(a),
