@@ -1,0 +1,5 @@
+pub mod Courses
+pub mod Effects
+pub mod History
+pub mod Log
+pub mod Orders
