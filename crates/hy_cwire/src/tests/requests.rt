@@ -59,6 +59,7 @@ fn requests_of_curl_are_read(rt: HostRuntime) {
 fn requests_have_their_faults(rt: HostRuntime) {
     let alloc = rt.alloc();
     for (text, words) in [
+        ("\r\n\r\n", "NotHead(4), 400"),
         ("GET /o/a\r\n\r\n", "NotHead(12), 400"),
         (
             "GET /o/a/0000000100000001 HTTP/2\r\n\r\n",
