@@ -1,5 +1,5 @@
 -- What the head of a request comes to.
-use Rattle.std.specs.Prelude.{◌≡◌, ◌≢◌, ℕ, Bool, true, false, bytes_eq, List, [], map, length, Option, Some, None, Result, Ok, Err, IsTrue, codes, if◌then◌else◌, nat_lt, ◌⊎◌}
+use Rattle.std.specs.Prelude.{◌≡◌, ℕ, Bool, true, false, bytes_eq, List, [], map, length, Option, Some, None, Result, Ok, Err, IsTrue, codes, if◌then◌else◌, nat_lt, ◌⊎◌}
 use Rattle.httparse.specs.declared.spans.HeaderSpan.{HeaderSpan}
 use Rattle.httparse.specs.Grammar.{RequestHead, ReadsRequest}
 use Rattle.httparse.specs.Spans.{name_and_value, IsRequestAt, IsRequestWithin}

@@ -1,5 +1,5 @@
 -- How far a message has come, by the bytes that were taken of it.
-use Rattle.std.specs.Prelude.{◌≡◌, ◌≢◌, ℕ, ◌<◌, ◌≤◌, nat_lt, if◌then◌else◌, List, length, take, drop, Option, Some, None, Result, Ok, Err, ⊤}
+use Rattle.std.specs.Prelude.{◌≡◌, ◌≢◌, ℕ, ◌<◌, ◌≤◌, nat_lt, if◌then◌else◌, List, length, take, drop, Option, None, Result, Ok, Err, ⊤}
 use Rattle.hy_cwire.specs.declared.block.TheConstants.{MAX_HEAD}
 use Rattle.hy_cwire.specs.declared.fault.HttpFault.{HttpFault}
 use Rattle.hy_cwire.specs.declared.fault.HttpFault.TheVariants.{HeadTooLong, Cut, NoMemory}

@@ -140,6 +140,15 @@ fn http_faults_of_server(rt: HostRuntime) {
             "Content-Length: 0\r\nContent-Length: 0\r\n\r\n",
             "LengthTwice, 400",
         ),
+    ] {
+        with_fields(&rt, alloc, line, fields, words);
+    }
+}
+
+#[test]
+fn lengths_have_their_faults(rt: HostRuntime) {
+    let alloc = rt.alloc();
+    for (line, fields, words) in [
         ("PUT", "Content-Length: 3a\r\n\r\n", "NoLength, 411"),
         ("PUT", "Content-Length: +3\r\n\r\n", "NoLength, 411"),
         ("PUT", "Content-Length:\r\n\r\n", "NoLength, 411"),
