@@ -2,11 +2,11 @@
 use Rattle.std.proofs.Common.{◌≡◌, ◌≢◌, ℕ, ◌+◌, ◌-◌, ◌<◌, ◌≤◌, min, Bool, true, false, List, [], ◌∷◌, ◌++◌, length, take, drop, refl, sym, ap, subst, ◌∙◌, append_assoc, arith, inl, inr, ◌&&◌}
 use Rattle.std.specs.Prelude.{◌⊎◌, nat_eq}
 use Rattle.std.specs.List.{ends_with}
-use Rattle.std.proofs.Math.Seq.{take-append-add, take-append_seam, take-length}
-use Rattle.std.proofs.lemmas.Bool.{cases_Bool, cases_lt, false≢true}
+use Rattle.std.proofs.Math.Seq.{take-append-add}
+use Rattle.std.proofs.lemmas.Bool.{cases_lt, false≢true}
 use Rattle.std.proofs.lemmas.Bool.Decides.{Decides-eqb}
 use Rattle.std.proofs.lemmas.Slice.Eq.{ends_is}
-use Rattle.std.proofs.lemmas.List.{append-nil, nil_from_length, take-take, take_at, drop_at, take-append-drop, take-append-le, drop-append-le, length-append, length-take, length-drop}
+use Rattle.std.proofs.lemmas.List.{append-nil, nil_from_length, take-take, take-append-drop, take-append-le, length-append, length-take, length-drop}
 use Rattle.hy_record.proofs.Names.{split_end}
 use Rattle.hy_cwire.specs.declared.block.TheConstants.{MAX_HEAD}
 use Rattle.hy_cwire.specs.Block.{end_of_head, ends_head, IsBlock, HasNoBlock}

@@ -1,5 +1,5 @@
 -- A head has no more fields than bytes.
-use Rattle.std.proofs.Common.{◌≡◌, ℕ, ◌+◌, ◌≤◌, List, [], ◌∷◌, ◌++◌, length, arith, length-append, zero-le}
+use Rattle.std.proofs.Common.{◌≤◌, List, [], ◌∷◌, length, arith, length-append, zero-le}
 use Rattle.std.specs.List.{flat_map}
 use Rattle.httparse.specs.Grammar.{Field, print_field, RequestHead, print_request, ResponseHead, print_response}
 

@@ -1,12 +1,12 @@
 -- A head whose lines end in CR LF ends at its first CR LF CR LF, whatever follows.
-use Rattle.std.proofs.Common.{◌≡◌, ◌≢◌, ℕ, zero, suc, ◌+◌, ◌-◌, ◌<◌, ◌≤◌, Bool, true, false, List, [], ◌∷◌, ◌++◌, length, take, drop, All, refl, sym, ap, subst, ◌∙◌, append_assoc, arith, inl, inr}
+use Rattle.std.proofs.Common.{◌≡◌, ◌≢◌, ℕ, zero, suc, ◌+◌, ◌-◌, ◌<◌, ◌≤◌, Bool, true, false, List, [], ◌∷◌, ◌++◌, length, take, All, refl, sym, ap, subst, ◌∙◌, append_assoc, arith, inl, inr}
 use Rattle.std.specs.List.{flat_map}
 use Rattle.std.proofs.Math.Seq.{take-append-add}
 use Rattle.std.proofs.lemmas.Bool.{cases_lt, false≢true}
-use Rattle.std.proofs.lemmas.List.{append-nil, take_at, take_all, take-append-le, length-append}
+use Rattle.std.proofs.lemmas.List.{append-nil, take_at, take-append-le, length-append}
 use Rattle.std.proofs.lemmas.List.Elements.{All-cons, All-head, All-tail, All-append, All-weaker}
 use Rattle.hy_record.proofs.Names.{split_end}
-use Rattle.httparse.specs.Grammar.{is_token_byte, is_uri_byte, is_value_byte, AllPass, LineEnd, crlf, Field, IsField, print_field, print_section}
+use Rattle.httparse.specs.Grammar.{is_token_byte, is_value_byte, AllPass, LineEnd, crlf, Field, IsField, print_field, print_section}
 use Rattle.hy_cwire.specs.declared.block.TheConstants.{MAX_HEAD}
 use Rattle.hy_cwire.specs.Block.{end_of_head, ends_head, IsBlock}
 use Rattle.hy_cwire.proofs.Blocks.{head_ends, ends-head, no_end, no_head_yet}

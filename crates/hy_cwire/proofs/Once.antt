@@ -1,29 +1,23 @@
 -- What bytes come to is one thing: a block has one head, a head one meaning, and a message stands at one stage.
-use Rattle.std.proofs.Common.{◌≡◌, ◌≢◌, ℕ, zero, suc, ◌+◌, ◌-◌, ◌%◌, ◌/◌, ◌^◌, ◌<◌, ◌≤◌, Bool, true, false, List, [], ◌∷◌, ◌++◌, length, get_or, take, drop, Option, Some, None, Result, Ok, Err, refl, sym, ap, subst, ◌∙◌, arith, inl, inr}
-use Rattle.std.specs.Prelude.{◌⊎◌}
-use Rattle.std.proofs.lemmas.List.{append-nil}
+use Rattle.std.proofs.Common.{◌≡◌, ℕ, zero, suc, ◌^◌, ◌<◌, List, [], ◌++◌, length, get_or, take, drop, Option, Some, None, Result, Ok, Err, refl, sym, ap, subst, ◌∙◌, arith, inl, inr}
 use Rattle.byteorder.specs.Endian.{big_bytes, big_number}
 use Rattle.byteorder.specs.Numbers.{big_number-reads_back}
 use Rattle.hex.proofs.HexLemmas.{decode_sized-encode_lower}
 use Rattle.hex.specs.Hex.{decode_sized}
 use Rattle.hex.specs.declared.error.FromHexError.{FromHexError}
-use Rattle.httparse.specs.Grammar.{RequestHead, ReadsRequest, ResponseHead, ReadsResponse, status_code}
+use Rattle.httparse.specs.Grammar.{RequestHead, ResponseHead}
 use Rattle.httparse.proofs.GrammarLemmas.{request_unique, response_unique}
-use Rattle.hy_record.specs.Name.{hex_number, object_name}
+use Rattle.hy_record.specs.Name.{hex_number}
 use Rattle.hy_record.specs.Stamp.{Timestamp}
 use Rattle.hy_record.proofs.Names.{name_parts, length-hex_number}
-use Rattle.hy_record.proofs.Numbers.{IsBytes}
 use Rattle.hy_cwire.specs.declared.ask_head.AskHead.{AskHead}
 use Rattle.hy_cwire.specs.declared.say_head.SayHead.{SayHead}
 use Rattle.hy_cwire.specs.declared.fault.HttpFault.{HttpFault}
-use Rattle.hy_cwire.specs.declared.fault.HttpFault.TheVariants.{NotHead, HeadTooLong, Cut}
 use Rattle.hy_cwire.specs.declared.kind.WishKind.{WishKind}
 use Rattle.hy_cwire.specs.declared.progress.Progress.{Progress}
 use Rattle.hy_cwire.specs.declared.progress.Progress.TheVariants.{Head, Body, Given, Broken}
-use Rattle.hy_cwire.specs.declared.block.TheConstants.{MAX_HEAD}
 use Rattle.hy_cwire.specs.Asks.{kind_named, IsName, NameIs, ask_of, JudgesKind, JudgesAsk, AskComesTo}
-use Rattle.hy_cwire.specs.Says.{say_size, JudgesSay, SayComesTo}
-use Rattle.hy_cwire.specs.Block.{IsBlock, HasNoBlock}
+use Rattle.hy_cwire.specs.Says.{JudgesSay, SayComesTo}
 use Rattle.hy_cwire.specs.Stages.{IsBroken, too_long, bad_head, no_head, no_body, IsAt, IsOpen}
 use Rattle.hy_cwire.proofs.Blocks.{block-one, block-none}
 

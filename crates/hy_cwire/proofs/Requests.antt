@@ -1,27 +1,25 @@
 -- A written request is a head of the grammar and its body, and comes to what was written.
-use Rattle.std.proofs.Common.{◌≡◌, ◌≢◌, ℕ, ◌+◌, ◌^◌, ◌<◌, ◌≤◌, Bool, true, false, List, [], ◌∷◌, ◌++◌, length, take, All, refl, sym, ap, subst, ◌∙◌, append_assoc, arith, codes, Option, Some, None, Result, Ok, Err, inl, inr}
+use Rattle.std.proofs.Common.{◌≡◌, ◌≢◌, ℕ, ◌^◌, ◌<◌, ◌≤◌, true, false, List, [], ◌∷◌, ◌++◌, length, take, All, refl, sym, ap, subst, ◌∙◌, append_assoc, arith, codes, Option, Some, None, Ok, inl}
 use Rattle.std.specs.Prelude.{map, nat_lt}
 use Rattle.std.specs.List.{list_all}
 use Rattle.std.specs.Fmt.{decimal}
-use Rattle.std.proofs.lemmas.Bool.{cases_Bool}
 use Rattle.std.proofs.lemmas.Bool.Decides.{nat_tests}
 use Rattle.std.proofs.lemmas.Fmt.{length-decimal-le}
 use Rattle.std.proofs.lemmas.List.{append-nil, take_at, length-append}
 use Rattle.std.proofs.lemmas.List.Elements.{All-nil, All-cons, All-append}
 use Rattle.std.proofs.lemmas.List.Sums.{AllPass-from_list_all}
-use Rattle.httparse.specs.Grammar.{is_token_byte, is_uri_byte, is_value_byte, AllPass, IsToken, crlf, Field, IsField, field_value, RequestHead, IsRequestHead, print_request, print_section}
+use Rattle.httparse.specs.Grammar.{is_token_byte, is_uri_byte, is_value_byte, IsToken, crlf, Field, IsField, RequestHead, IsRequestHead, print_request, print_section}
 use Rattle.httparse.specs.Spans.{name_and_value}
 use Rattle.httparse.proofs.GrammarLemmas.{cons-append}
 use Rattle.hy_base.specs.declared.limits.TheConstants.{MAX_VALUE}
 use Rattle.hy_record.specs.Key.{is_key}
 use Rattle.hy_record.specs.Name.{object_name}
-use Rattle.hy_record.specs.Stamp.{Timestamp, IsStamp}
+use Rattle.hy_record.specs.Stamp.{Timestamp}
 use Rattle.hy_record.specs.declared.cloud.CloudAct.{CloudAct}
 use Rattle.hy_record.specs.declared.cloud.CloudAct.TheVariants as acts
 use Rattle.hy_record.specs.declared.cloud.Wish.{Wish}
 use Rattle.hy_cwire.specs.declared.ask_head.AskHead.{AskHead}
 use Rattle.hy_cwire.specs.declared.block.TheConstants.{MAX_HEAD}
-use Rattle.hy_cwire.specs.declared.fault.HttpFault.{HttpFault}
 use Rattle.hy_cwire.specs.declared.kind.WishKind.{WishKind}
 use Rattle.hy_cwire.specs.declared.kind.WishKind.TheVariants.{Put, Get, Delete}
 use Rattle.hy_cwire.specs.declared.progress.Progress.TheVariants.{Body}

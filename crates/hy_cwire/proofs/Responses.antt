@@ -1,5 +1,5 @@
 -- A written answer is a head of the grammar and its body, and means what was written.
-use Rattle.std.proofs.Common.{◌≡◌, ◌≢◌, ℕ, ◌+◌, ◌^◌, ◌<◌, ◌≤◌, Bool, true, false, List, [], ◌∷◌, ◌++◌, length, take, refl, sym, ap, subst, ◌∙◌, append_assoc, arith, codes, Some, Result, Ok, inl, inr}
+use Rattle.std.proofs.Common.{◌≡◌, ◌≢◌, ℕ, ◌<◌, ◌≤◌, true, false, List, [], ◌∷◌, ◌++◌, length, refl, sym, ap, subst, ◌∙◌, append_assoc, arith, codes, Some, Ok, inl, inr}
 use Rattle.std.specs.Prelude.{nat_lt, map, ◌⊎◌}
 use Rattle.std.specs.Char.{is_ascii_digit}
 use Rattle.std.specs.List.{list_all}
@@ -17,15 +17,14 @@ use Rattle.hy_record.specs.declared.cloud.CloudSay.{CloudSay}
 use Rattle.hy_record.specs.declared.cloud.CloudSay.TheVariants as says
 use Rattle.hy_cwire.specs.declared.say_head.SayHead.{SayHead}
 use Rattle.hy_cwire.specs.declared.block.TheConstants.{MAX_HEAD}
-use Rattle.hy_cwire.specs.declared.fault.HttpFault.{HttpFault}
 use Rattle.hy_cwire.specs.declared.kind.WishKind.{WishKind}
 use Rattle.hy_cwire.specs.declared.kind.WishKind.TheVariants.{Put, Get, Delete}
 use Rattle.hy_cwire.specs.declared.progress.Progress.{Progress}
 use Rattle.hy_cwire.specs.declared.progress.Progress.TheVariants.{Body}
 use Rattle.hy_cwire.specs.Block.{IsBlock}
-use Rattle.hy_cwire.specs.Lengths.{values_named, size_by, body_size, length_of, at_most}
+use Rattle.hy_cwire.specs.Lengths.{values_named, size_by, at_most}
 use Rattle.hy_cwire.specs.Readers.{IsSayAt, say_body_size}
-use Rattle.hy_cwire.specs.Says.{is_bare, say_size, JudgesSay, SayComesTo, say_of, say_in}
+use Rattle.hy_cwire.specs.Says.{is_bare, say_size, SayComesTo, say_of, say_in}
 use Rattle.hy_cwire.specs.Stages.{IsOpen, next_answer}
 use Rattle.hy_cwire.specs.Writing.{answer_bytes, bare_answer, say_bytes, IsSendableSay, IsAnswerTo}
 use Rattle.hy_cwire.proofs.Heads.{plain_head, ArePlain, HasNoFeed, passes-no-feed, one-no-feed, both-no-feed, head-block}

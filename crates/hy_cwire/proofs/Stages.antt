@@ -1,15 +1,14 @@
 -- How far a message has come after a piece, and after the end.
-use Rattle.std.proofs.Common.{◌≡◌, ◌≢◌, ℕ, ◌+◌, ◌-◌, ◌<◌, ◌≤◌, min, Bool, true, false, List, [], ◌∷◌, ◌++◌, length, take, drop, Result, Ok, Err, refl, sym, ap, subst, ◌∙◌, append_assoc, arith, inl, inr}
-use Rattle.std.specs.Prelude.{◌⊎◌}
+use Rattle.std.proofs.Common.{◌≡◌, ℕ, ◌+◌, ◌<◌, ◌≤◌, min, true, false, List, ◌++◌, length, take, drop, Result, Ok, Err, refl, sym, ap, subst, ◌∙◌, append_assoc, arith, inl, inr}
 use Rattle.std.proofs.lemmas.Bool.{cases_lt}
-use Rattle.std.proofs.lemmas.List.{append-nil, take_all, take-take, take_at, drop_at, take-append-drop, take-append-le, drop-append-le, length-append, length-take, length-drop}
+use Rattle.std.proofs.lemmas.List.{take_all, take-take, take_at, drop_at, take-append-drop, take-append-le, drop-append-le, length-append, length-take, length-drop}
 use Rattle.hy_cwire.specs.declared.block.TheConstants.{MAX_HEAD}
 use Rattle.hy_cwire.specs.declared.fault.HttpFault.{HttpFault}
-use Rattle.hy_cwire.specs.declared.fault.HttpFault.TheVariants.{HeadTooLong, Cut}
+use Rattle.hy_cwire.specs.declared.fault.HttpFault.TheVariants.{Cut}
 use Rattle.hy_cwire.specs.declared.progress.Progress.{Progress}
 use Rattle.hy_cwire.specs.declared.progress.Progress.TheVariants.{Head, Body, Given, Broken}
 use Rattle.hy_cwire.specs.Block.{IsBlock, HasNoBlock}
-use Rattle.hy_cwire.specs.Stages.{IsBroken, too_long, bad_head, no_head, no_body, IsAt, Begins}
+use Rattle.hy_cwire.specs.Stages.{IsBroken, bad_head, no_head, no_body, IsAt, Begins}
 use Rattle.hy_cwire.proofs.Blocks.{block-append, front-ends}
 use Rattle.hy_cwire.specs.Block.{ends_head}
 

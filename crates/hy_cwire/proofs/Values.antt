@@ -1,5 +1,5 @@
 -- The values of the fields of a name, as a loop finds them.
-use Rattle.std.proofs.Common.{◌≡◌, ℕ, ◌+◌, Bool, true, false, cond, List, [], ◌∷◌, ◌++◌, refl, sym, ap, ◌∙◌}
+use Rattle.std.proofs.Common.{◌≡◌, ℕ, Bool, true, false, cond, List, [], ◌∷◌, ◌++◌, refl, ap, ◌∙◌}
 use Rattle.std.specs.Prelude.{map, filter}
 use Rattle.hy_cwire.specs.declared.fields.Named.{Named}
 use Rattle.hy_cwire.specs.declared.fields.Named.TheVariants.{None, One, Several}

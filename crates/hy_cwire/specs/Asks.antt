@@ -1,5 +1,5 @@
 -- What the head of a request comes to.
-use Rattle.std.specs.Prelude.{◌≡◌, ◌≢◌, ℕ, Bool, true, false, bytes_eq, List, [], map, length, Option, Some, None, Result, Ok, Err, IsTrue, codes, if◌then◌else◌, nat_lt, ◌⊎◌}
+use Rattle.std.specs.Prelude.{◌≡◌, ℕ, Bool, true, false, bytes_eq, List, [], map, length, Option, Some, None, Result, Ok, Err, IsTrue, codes, if◌then◌else◌, nat_lt, ◌⊎◌}
 use Rattle.httparse.specs.declared.spans.HeaderSpan.{HeaderSpan}
 use Rattle.httparse.specs.Grammar.{RequestHead, ReadsRequest}
 use Rattle.httparse.specs.Spans.{name_and_value, IsRequestAt, IsRequestWithin}
@@ -67,7 +67,8 @@ ask_of kind (Some name) h = with_size kind name (ask_size kind h)
 
 abbrev pub JudgesKind : Option WishKind → RequestHead → Result AskHead HttpFault → Type 0
 JudgesKind None h result = result ≡ Err BadMethod
-JudgesKind (Some kind) h result = (name : Option (List ℕ × Timestamp)) × NameIs h.target name × (result ≡ ask_of kind name h)
+JudgesKind (Some kind) h result =
+    (name : Option (List ℕ × Timestamp)) × NameIs h.target name × (result ≡ ask_of kind name h)
 
 -- what the head comes to: the first fault in the order of method, target and body
 abbrev pub JudgesAsk : RequestHead → Result AskHead HttpFault → Type 0
@@ -75,11 +76,15 @@ JudgesAsk h result = JudgesKind (kind_named h.method) h result
 
 -- what the block comes to: that of the head that it is, or that it is none
 abbrev pub AskComesTo : List ℕ → Result AskHead HttpFault → Type 0
-AskComesTo block result = ((h : RequestHead) × ReadsRequest block h [] × JudgesAsk h result) ⊎ (((h : RequestHead) → ¬ (ReadsRequest block h [])) × (result ≡ Err (NotHead (length block))))
+AskComesTo block result =
+    ((h : RequestHead) × ReadsRequest block h [] × JudgesAsk h result)
+    ⊎ (((h : RequestHead) → ¬ (ReadsRequest block h [])) × (result ≡ Err (NotHead (length block))))
 
 -- what is found is the block's head, whose parts the spans cover
 abbrev pub FindsRequest : List ℕ → List HeaderSpan → RequestSearch → Type 0
-FindsRequest block headers (searches.Found spans) = IsRequestWithin block headers spans × (h : RequestHead) × ReadsRequest block h [] × IsRequestAt block headers spans h
+FindsRequest block headers (searches.Found spans) =
+    IsRequestWithin block headers spans
+    × (h : RequestHead) × ReadsRequest block h [] × IsRequestAt block headers spans h
 FindsRequest block headers searches.NoHead = Unit {0}
 FindsRequest block headers searches.NoRoom = Unit {0}
 

@@ -21,7 +21,9 @@ values_named name fields = map (λ (field : Pair). field.1) (filter (has_name na
 
 -- the number that one or more digits spell, or the greatest of 64 bits
 abbrev pub length_of : List ℕ → Option ℕ
-length_of value = if nat_lt 0 (length value) && list_all is_ascii_digit value then Some (min (digits_value 10 value) (2 ^ 64 - 1)) else None
+length_of value =
+    if nat_lt 0 (length value) && list_all is_ascii_digit value then Some (min (digits_value 10 value) (2 ^ 64 - 1))
+    else None
 
 abbrev pub at_most : ℕ → Option ℕ → Result ℕ HttpFault
 at_most limit None = Err NoLength
@@ -40,7 +42,9 @@ unless_coded (coding ∷ more) size = Err Coding
 
 -- the size of the body of a message that has these fields
 abbrev pub body_size : Bool → ℕ → List Pair → Result ℕ HttpFault
-body_size needed limit fields = unless_coded (values_named (codes "transfer-encoding") fields) (size_by needed limit (values_named (codes "content-length") fields))
+body_size needed limit fields =
+    unless_coded (values_named (codes "transfer-encoding") fields)
+    (size_by needed limit (values_named (codes "content-length") fields))
 
 -- the size of a body that is not there, whatever length is given
 abbrev pub no_body : List Pair → Result ℕ HttpFault

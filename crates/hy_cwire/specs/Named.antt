@@ -7,4 +7,5 @@ use Rattle.hy_cwire.specs.declared.fields.Named.TheVariants.{None, One, Several}
 abbrev pub IsNamed : List (List ℕ) → Named → Type 0
 IsNamed values None = values ≡ []
 IsNamed values (One value) = values ≡ value.now ∷ []
-IsNamed values Several = (first : List ℕ) × (second : List ℕ) × (more : List (List ℕ)) × (values ≡ first ∷ second ∷ more)
+IsNamed values Several =
+    (first : List ℕ) × (second : List ℕ) × (more : List (List ℕ)) × (values ≡ first ∷ second ∷ more)

@@ -21,7 +21,9 @@ is_bare status = (nat_le 100 status && nat_lt status 200) || (status == 204) || 
 
 -- the size of the body
 abbrev pub say_size : ResponseHead → Result ℕ HttpFault
-say_size h = if is_bare (status_code h) then no_body (map name_and_value h.fields) else body_size true MAX_VALUE (map name_and_value h.fields)
+say_size h =
+    if is_bare (status_code h) then no_body (map name_and_value h.fields)
+    else body_size true MAX_VALUE (map name_and_value h.fields)
 
 -- what the head comes to
 abbrev pub JudgesSay : ResponseHead → Result SayHead HttpFault → Type 0
@@ -30,11 +32,15 @@ JudgesSay h (Err fault) = say_size h ≡ Err fault
 
 -- what the block comes to: that of the head that it is, or that it is none
 abbrev pub SayComesTo : List ℕ → Result SayHead HttpFault → Type 0
-SayComesTo block result = ((h : ResponseHead) × ReadsResponse block h [] × JudgesSay h result) ⊎ (((h : ResponseHead) → ¬ (ReadsResponse block h [])) × (result ≡ Err (NotHead (length block))))
+SayComesTo block result =
+    ((h : ResponseHead) × ReadsResponse block h [] × JudgesSay h result)
+    ⊎ (((h : ResponseHead) → ¬ (ReadsResponse block h [])) × (result ≡ Err (NotHead (length block))))
 
 -- what is found is the block's head, whose parts the spans cover
 abbrev pub FindsResponse : List ℕ → List HeaderSpan → ResponseSearch → Type 0
-FindsResponse block headers (searches.Found spans) = IsResponseWithin block headers spans × (h : ResponseHead) × ReadsResponse block h [] × IsResponseAt block headers spans h
+FindsResponse block headers (searches.Found spans) =
+    IsResponseWithin block headers spans
+    × (h : ResponseHead) × ReadsResponse block h [] × IsResponseAt block headers spans h
 FindsResponse block headers searches.NoHead = Unit {0}
 FindsResponse block headers searches.NoRoom = Unit {0}
 

@@ -1,5 +1,5 @@
 -- How far a message has come, by the bytes that were taken of it.
-use Rattle.std.specs.Prelude.{◌≡◌, ◌≢◌, ℕ, ◌<◌, ◌≤◌, nat_lt, if◌then◌else◌, List, length, take, drop, Option, Some, None, Result, Ok, Err, ⊤}
+use Rattle.std.specs.Prelude.{◌≡◌, ◌≢◌, ℕ, ◌<◌, ◌≤◌, nat_lt, if◌then◌else◌, List, length, take, drop, Option, None, Result, Ok, Err, ⊤}
 use Rattle.hy_cwire.specs.declared.block.TheConstants.{MAX_HEAD}
 use Rattle.hy_cwire.specs.declared.fault.HttpFault.{HttpFault}
 use Rattle.hy_cwire.specs.declared.fault.HttpFault.TheVariants.{HeadTooLong, Cut, NoMemory}
@@ -7,18 +7,24 @@ use Rattle.hy_cwire.specs.declared.progress.Progress.{Progress}
 use Rattle.hy_cwire.specs.declared.progress.Progress.TheVariants.{Head, Body, Given, Broken}
 use Rattle.hy_cwire.specs.Block.{IsBlock, HasNoBlock}
 
--- the bytes are no message, and this is why: no block ends in time, the block has a fault, or the peer closed before the head or the body was whole
-pub data IsBroken {H : Type 0} (comes_to : List ℕ → Result H HttpFault → Type 0) (size : H → ℕ) (bytes : List ℕ) (wrong : HttpFault) : Type 0 where
+-- the bytes are no message, and this is why: no block ends in time, the block has a fault, or the peer closed before
+-- the head or the body was whole
+pub data IsBroken
+    {H : Type 0} (comes_to : List ℕ → Result H HttpFault → Type 0) (size : H → ℕ) (bytes : List ℕ)
+    (wrong : HttpFault) : Type 0 where
   too_long : wrong ≡ HeadTooLong → HasNoBlock bytes → MAX_HEAD ≤ length bytes → IsBroken comes_to size bytes wrong
   bad_head : (n : ℕ) → IsBlock bytes n → comes_to (take n bytes) (Err wrong) → IsBroken comes_to size bytes wrong
   no_head : wrong ≡ Cut (length bytes) 0 → HasNoBlock bytes → length bytes < MAX_HEAD → IsBroken comes_to size bytes wrong
-  no_body : (n : ℕ) (head : H) → wrong ≡ Cut (length (drop n bytes)) (size head) → IsBlock bytes n → comes_to (take n bytes) (Ok head) → length (drop n bytes) < size head → IsBroken comes_to size bytes wrong
+  no_body : (n : ℕ) (head : H) → wrong ≡ Cut (length (drop n bytes)) (size head) → IsBlock bytes n
+      → comes_to (take n bytes) (Ok head) → length (drop n bytes) < size head → IsBroken comes_to size bytes wrong
 
 -- these bytes were taken, and so far the message came
 abbrev pub IsAt : {H : Type 0} → (List ℕ → Result H HttpFault → Type 0) → (H → ℕ) → List ℕ → Progress H → Type 0
 IsAt comes_to size bytes (Head front) = (front ≡ bytes) × HasNoBlock bytes × (length bytes < MAX_HEAD)
-IsAt comes_to size bytes (Body head body) = (n : ℕ) × IsBlock bytes n × comes_to (take n bytes) (Ok head) × (body ≡ take (size head) (drop n bytes))
-IsAt {H = H} comes_to size bytes Given = (n : ℕ) × (head : H) × IsBlock bytes n × comes_to (take n bytes) (Ok head) × (size head ≤ length (drop n bytes))
+IsAt comes_to size bytes (Body head body) =
+    (n : ℕ) × IsBlock bytes n × comes_to (take n bytes) (Ok head) × (body ≡ take (size head) (drop n bytes))
+IsAt {H = H} comes_to size bytes Given =
+    (n : ℕ) × (head : H) × IsBlock bytes n × comes_to (take n bytes) (Ok head) × (size head ≤ length (drop n bytes))
 IsAt comes_to size bytes (Broken wrong) = IsBroken comes_to size bytes wrong
 
 -- no fault was answered
@@ -59,7 +65,8 @@ IsSound (Broken wrong) = wrong ≢ NoMemory
 -- the peer closed
 abbrev pub after_end : {H : Type 0} → (H → ℕ) → Progress H → Progress H
 after_end size (Head front) = Broken (Cut (length front) 0)
-after_end size (Body head body) = if nat_lt (length body) (size head) then Broken (Cut (length body) (size head)) else Body head body
+after_end size (Body head body) =
+    if nat_lt (length body) (size head) then Broken (Cut (length body) (size head)) else Body head body
 after_end size Given = Given
 after_end size (Broken wrong) = Broken wrong
 

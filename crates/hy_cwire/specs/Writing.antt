@@ -1,5 +1,5 @@
 -- The bytes of requests and of answers.
-use Rattle.std.specs.Prelude.{◌≡◌, ℕ, ◌≤◌, ◌⊎◌, IsTrue, Bool, true, false, ◌==◌, List, [], ◌++◌, length, codes, if◌then◌else◌, ⊤}
+use Rattle.std.specs.Prelude.{◌≡◌, ℕ, ◌≤◌, ◌⊎◌, IsTrue, true, false, ◌==◌, List, [], ◌++◌, length, codes, if◌then◌else◌, ⊤}
 use Rattle.std.specs.Fmt.{decimal}
 use Rattle.hy_base.specs.declared.limits.TheConstants.{MAX_VALUE}
 use Rattle.hy_record.specs.declared.cloud.CloudAct.{CloudAct}

@@ -81,8 +81,10 @@ pub(crate) fn most_spans(alloc: Global) -> Result<Vec<HeaderSpan>, NoMemory>
 /// Searches a head that is the whole block.
 fn request_in(block: &[u8], headers: &mut [HeaderSpan]) -> RequestSearch
     ensures found { FindsRequest block.now headers.new result }
-    ensures no_head { result ≡ searches.NoHead → (h : RequestHead) → ¬ (ReadsRequest block.now h []) }
-    ensures no_room { result ≡ searches.NoRoom → (h : RequestHead) → ReadsRequest block.now h [] → length headers.old < length h.fields }
+    ensures no_head { result ≡ searches.NoHead → (h : RequestHead)
+        → ¬ (ReadsRequest block.now h []) }
+    ensures no_room { result ≡ searches.NoRoom → (h : RequestHead) → ReadsRequest block.now h []
+        → length headers.old < length h.fields }
 {
     match parse_request(block, headers) {
         Ok(Status::Complete(spans)) => {
@@ -106,7 +108,8 @@ fn judge(
     spans: &RequestSpans,
 ) -> Result<AskHead, HttpFault>
     requires { IsRequestWithin block.now headers.now spans.now }
-    ensures { result ≢ Err faults.NoMemory → (h : RequestHead) → IsRequestAt block.now headers.now spans.now h → JudgesAsk h result }
+    ensures { result ≢ Err faults.NoMemory → (h : RequestHead)
+        → IsRequestAt block.now headers.now spans.now h → JudgesAsk h result }
 {
     let kind = kind_of(alloc, spans.method.of(block))?;
     let fields = &headers[..spans.headers];
@@ -127,7 +130,8 @@ fn judge(
 /// The size of the body of a request of this kind.
 fn size_of_ask(block: &[u8], headers: &[HeaderSpan], kind: WishKind) -> Result<u64, HttpFault>
     requires { All (IsHeaderWithin (length block.now)) headers.now }
-    ensures { result ≡ body_size (has_body kind) (most_bytes kind) (map (header_bytes block.now) headers.now) }
+    ensures { result ≡ body_size (has_body kind) (most_bytes kind)
+        (map (header_bytes block.now) headers.now) }
 {
     match kind {
         WishKind::Put => size_of_body(block, headers, true, u64::from(MAX_VALUE)),

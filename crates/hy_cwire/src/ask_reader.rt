@@ -47,10 +47,12 @@ impl AskReader {
         })
     }
 
-    /// Takes a piece, unless a fault was answered before. A fault that the bytes show is answered, and from then on.
+    /// Takes a piece, unless a fault was answered before. A fault that the bytes show is answered,
+    /// and from then on.
     pub fn feed(&mut self, alloc: Global, piece: &[u8]) -> Result<(), HttpFault>
         ensures answer { result ≢ Err faults.NoMemory → result ≡ answer_of self.new }
-        ensures stands { result ≢ Err faults.NoMemory → IsLive self.old → (bytes : List ℕ) → IsAskAt bytes self.old → IsAskAt (bytes ++ piece.now) self.new }
+        ensures stands { result ≢ Err faults.NoMemory → IsLive self.old → (bytes : List ℕ)
+            → IsAskAt bytes self.old → IsAskAt (bytes ++ piece.now) self.new }
         ensures broken { ¬ (IsLive self.old) → self.new ≡ self.old }
         ensures memory { result ≡ Err faults.NoMemory → self.new ≡ self.old }
     {
@@ -70,6 +72,7 @@ impl AskReader {
     /// The peer closed: a request that is not whole is cut, and this is answered from then on.
     pub fn end(&mut self) -> Result<(), HttpFault>
         ensures answer { result ≡ answer_of self.new }
+        ensures memory { result ≢ Err faults.NoMemory }
         ensures after { self.new ≡ after_end ask_body_size self.old }
         ensures stands { (bytes : List ℕ) → IsAskAt bytes self.old → IsAskAt bytes self.new }
     {
@@ -81,6 +84,7 @@ impl AskReader {
     /// The request, once, when it is whole. It takes no memory.
     pub fn next(&mut self) -> Result<Option<Wish>, HttpFault>
         ensures answer { result ≡ next_answer wish_in self.old }
+        ensures memory { result ≢ Err faults.NoMemory }
         ensures after { self.new ≡ after_next ask_body_size self.old }
         ensures stands { (bytes : List ℕ) → IsAskAt bytes self.old → IsAskAt bytes self.new }
     {

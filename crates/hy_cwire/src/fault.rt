@@ -27,7 +27,8 @@ pub enum HttpFault {
     NoLength,
     /// The body has this length, more than it may have.
     BodyTooLong(u64),
-    /// The peer closed after so many bytes of the body, of which so many are due; 0 where the head was not whole, and then so many bytes came.
+    /// The peer closed after so many bytes of the body, of which so many are due; 0 where the head
+    /// was not whole, and then so many bytes came.
     Cut(u64, u64),
     /// Memory ran out.
     NoMemory,

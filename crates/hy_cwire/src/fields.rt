@@ -17,7 +17,8 @@ pub(crate) enum Named<'a> {
     Several,
 }
 
-/// The size of the body, as the fields give it: where one is needed, it must stand there, and it may have at most so many bytes.
+/// The size of the body, as the fields give it: where one is needed, it must stand there, and it
+/// may have at most so many bytes.
 pub(crate) fn size_of_body(
     block: &[u8],
     headers: &[HeaderSpan],

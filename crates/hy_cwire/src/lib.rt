@@ -1,4 +1,5 @@
-//! What clients ask of clouds and what clouds answer, as messages of HTTP/1.1, and their readers, which take them in any pieces.
+//! What clients ask of clouds and what clouds answer, as messages of HTTP/1.1, and their readers,
+//! which take them in any pieces.
 #![tactic(auto)]
 
 mod ask_head;

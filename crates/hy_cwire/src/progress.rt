@@ -37,7 +37,8 @@ pub trait Head: Sized + Drop {
 pub enum Progress<H> {
     /// The block is not whole: its bytes so far.
     Head(Bytes),
-    /// The head, and the bytes of the body so far, which is whole where they are as many as the head announces.
+    /// The head, and the bytes of the body so far, which is whole where they are as many as the head
+    /// announces.
     Body(H, Bytes),
     /// The message was given.
     Given,
@@ -54,7 +55,8 @@ pub(crate) fn fed<H: Head>(
     ensures sound { IsSound progress → IfOk result IsSound }
     ensures broken { ¬ (IsLive progress) → IfOk result (λ after. after ≡ progress) }
     ensures stands { MatchResult result
-        (λ after. IsLive progress → (bytes : List ℕ) → IsAt H.comes_to H.size bytes progress → IsAt H.comes_to H.size (bytes ++ piece.now) after)
+        (λ after. IsLive progress → (bytes : List ℕ) → IsAt H.comes_to H.size bytes progress
+        → IsAt H.comes_to H.size (bytes ++ piece.now) after)
         (λ after. after ≡ progress) }
 {
     match progress {
@@ -94,7 +96,8 @@ fn in_head<H: Head>(alloc: Global, front: Bytes, piece: &[u8]) -> Result<Progres
     }
 }
 
-/// Reads the head that is the block, and takes a piece of its body; else gives back what came before the last piece.
+/// Reads the head that is the block, and takes a piece of its body; else gives back what came before
+/// the last piece.
 fn with_block<H: Head>(
     alloc: Global,
     block: Bytes,
@@ -103,7 +106,9 @@ fn with_block<H: Head>(
 ) -> Result<Progress<H>, Bytes>
     requires { length block ≤ MAX_HEAD }
     ensures sound { IfOk result IsSound }
-    ensures begins { MatchResult result (Begins H.comes_to H.size block piece.now) (λ after. after ≡ take had block) }
+    ensures begins { MatchResult result
+        (Begins H.comes_to H.size block piece.now)
+        (λ after. after ≡ take had block) }
 {
     let mut block = block;
     match begun(alloc, block.get(), piece) {
@@ -136,7 +141,8 @@ fn begun<H: Head>(alloc: Global, block: &[u8], piece: &[u8]) -> Result<Progress<
 /// Takes a piece of the body.
 fn in_body<H: Head>(head: H, body: Bytes, piece: &[u8]) -> Result<(H, Bytes), (H, Bytes)>
     ensures { MatchResult result
-        (λ after. (after.0 ≡ head) × (length body ≤ H.size head → after.1 ≡ take (H.size head) (body ++ piece.now)))
+        (λ after. (after.0 ≡ head)
+        × (length body ≤ H.size head → after.1 ≡ take (H.size head) (body ++ piece.now)))
         (λ after. (after.0 ≡ head) × (after.1 ≡ body)) }
 {
     let mut body = body;
@@ -150,7 +156,8 @@ fn in_body<H: Head>(head: H, body: Bytes, piece: &[u8]) -> Result<(H, Bytes), (H
 /// The peer closed: a message that is not whole is cut.
 pub(crate) fn ended<H: Head>(progress: Progress<H>) -> Progress<H>
     ensures value { result ≡ after_end H.size progress }
-    ensures stands { (bytes : List ℕ) → IsAt H.comes_to H.size bytes progress → IsAt H.comes_to H.size bytes result }
+    ensures stands { (bytes : List ℕ) → IsAt H.comes_to H.size bytes progress
+        → IsAt H.comes_to H.size bytes result }
 {
     match progress {
         Progress::Head(front) => { Progress::Broken(HttpFault::Cut(front.get().len() as u64, 0)) }
@@ -180,8 +187,10 @@ pub(crate) fn answer<H>(progress: &Progress<H>) -> Result<(), HttpFault>
 
 /// The head and the body of a message that is whole; else the message is as before.
 pub(crate) fn whole<H: Head>(progress: Progress<H>) -> Result<(H, Vec<u8>), Progress<H>>
-    ensures whole { IfOk result (λ m. (progress ≡ stages.Body m.0 m.1.items) × (H.size m.0 ≤ length m.1.items)) }
-    ensures not_whole { IfErr result (λ after. (after ≡ progress) × IsUnfinished H.size progress) }
+    ensures whole { IfOk result
+        (λ m. (progress ≡ stages.Body m.0 m.1.items) × (H.size m.0 ≤ length m.1.items)) }
+    ensures not_whole { IfErr result
+        (λ after. (after ≡ progress) × IsUnfinished H.size progress) }
 {
     match progress {
         Progress::Body(head, body) => {

@@ -67,8 +67,10 @@ fn read_long_say(alloc: Global, block: &[u8]) -> Result<SayHead, HttpFault>
 /// Searches a head that is the whole block.
 fn response_in(block: &[u8], headers: &mut [HeaderSpan]) -> ResponseSearch
     ensures found { FindsResponse block.now headers.new result }
-    ensures no_head { result ≡ searches.NoHead → (h : ResponseHead) → ¬ (ReadsResponse block.now h []) }
-    ensures no_room { result ≡ searches.NoRoom → (h : ResponseHead) → ReadsResponse block.now h [] → length headers.old < length h.fields }
+    ensures no_head { result ≡ searches.NoHead → (h : ResponseHead)
+        → ¬ (ReadsResponse block.now h []) }
+    ensures no_room { result ≡ searches.NoRoom → (h : ResponseHead) → ReadsResponse block.now h []
+        → length headers.old < length h.fields }
 {
     match parse_response(block, headers) {
         Ok(Status::Complete(spans)) => {
@@ -87,7 +89,8 @@ fn response_in(block: &[u8], headers: &mut [HeaderSpan]) -> ResponseSearch
 /// What the head comes to that stands in the spans.
 fn judge(block: &[u8], headers: &[HeaderSpan], spans: &ResponseSpans) -> Result<SayHead, HttpFault>
     requires { IsResponseWithin block.now headers.now spans.now }
-    ensures { (h : ResponseHead) → IsResponseAt block.now headers.now spans.now h → JudgesSay h result }
+    ensures { (h : ResponseHead) → IsResponseAt block.now headers.now spans.now h
+        → JudgesSay h result }
 {
     let status = spans.code;
     let fields = &headers[..spans.headers];

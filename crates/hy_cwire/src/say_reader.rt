@@ -39,7 +39,8 @@ impl Model for SayReader {
 impl SayReader {
     /// A reader of an answer that has not begun, to a request of this kind.
     pub fn new(alloc: Global, act: WishKind) -> Result<SayReader, NoMemory>
-        ensures fresh { IfOk result (λ reader. reader ≡ record { asked = act; progress = stages.Head [] }) }
+        ensures fresh { IfOk result
+            (λ reader. reader ≡ record { asked = act; progress = stages.Head [] }) }
         ensures stands { IfOk result (λ reader. IsSayAt [] reader.progress) }
     {
         Ok(SayReader {
@@ -48,11 +49,13 @@ impl SayReader {
         })
     }
 
-    /// Takes a piece, unless a fault was answered before. A fault that the bytes show is answered, and from then on.
+    /// Takes a piece, unless a fault was answered before. A fault that the bytes show is answered,
+    /// and from then on.
     pub fn feed(&mut self, alloc: Global, piece: &[u8]) -> Result<(), HttpFault>
         ensures answer { result ≢ Err faults.NoMemory → result ≡ answer_of self.new.progress }
-        ensures stands { result ≢ Err faults.NoMemory → IsLive self.old.progress → (bytes : List ℕ)
-            → IsSayAt bytes self.old.progress → IsSayAt (bytes ++ piece.now) self.new.progress }
+        ensures stands { result ≢ Err faults.NoMemory → IsLive self.old.progress
+            → (bytes : List ℕ) → IsSayAt bytes self.old.progress
+            → IsSayAt (bytes ++ piece.now) self.new.progress }
         ensures broken { ¬ (IsLive self.old.progress) → self.new ≡ self.old }
         ensures memory { result ≡ Err faults.NoMemory → self.new ≡ self.old }
         ensures asked { self.new.asked ≡ self.old.asked }
@@ -73,8 +76,11 @@ impl SayReader {
     /// The peer closed: an answer that is not whole is cut, and this is answered from then on.
     pub fn end(&mut self) -> Result<(), HttpFault>
         ensures answer { result ≡ answer_of self.new.progress }
-        ensures after { self.new ≡ record { asked = self.old.asked; progress = after_end say_body_size self.old.progress } }
-        ensures stands { (bytes : List ℕ) → IsSayAt bytes self.old.progress → IsSayAt bytes self.new.progress }
+        ensures memory { result ≢ Err faults.NoMemory }
+        ensures after { self.new
+            ≡ record self.old { progress = after_end say_body_size self.old.progress } }
+        ensures stands { (bytes : List ℕ) → IsSayAt bytes self.old.progress
+            → IsSayAt bytes self.new.progress }
     {
         let progress = mem::replace(&mut self.progress, Progress::Given);
         self.progress = ended(progress);
@@ -84,8 +90,11 @@ impl SayReader {
     /// The answer, once, when it is whole. It takes no memory.
     pub fn next(&mut self) -> Result<Option<CloudSay>, HttpFault>
         ensures answer { result ≡ next_say self.old }
-        ensures after { self.new ≡ record { asked = self.old.asked; progress = after_next say_body_size self.old.progress } }
-        ensures stands { (bytes : List ℕ) → IsSayAt bytes self.old.progress → IsSayAt bytes self.new.progress }
+        ensures memory { result ≢ Err faults.NoMemory }
+        ensures after { self.new
+            ≡ record self.old { progress = after_next say_body_size self.old.progress } }
+        ensures stands { (bytes : List ℕ) → IsSayAt bytes self.old.progress
+            → IsSayAt bytes self.new.progress }
     {
         let progress = mem::replace(&mut self.progress, Progress::Given);
         match whole(progress) {

@@ -73,7 +73,8 @@ fn say_reader(rt: &impl Abort, alloc: Global, asked: WishKind) -> SayReader {
     SayReader::new(alloc, asked).ok().expect(rt, "memory")
 }
 
-/// The text is a request that comes to this, and so it is in single bytes; it is given once, and no end cuts it.
+/// The text is a request that comes to this, and so it is in single bytes; it is given once, and no
+/// end cuts it.
 fn asks(rt: &impl Abort, alloc: Global, text: &[u8], words: &str) {
     let mut whole = ask_reader(rt, alloc);
     let mut bytewise = ask_reader(rt, alloc);

@@ -28,7 +28,8 @@ pub fn write_ask(alloc: Global, wish: &Wish, port: u16) -> Result<Blob, NoMemory
 /// Writes the request about the object of this name.
 fn push_act(out: &mut Vec<u8>, act: &CloudAct, name: &[u8], port: u16) -> Result<(), NoMemory>
     requires { IsSendableAct act.now }
-    ensures { OnOk result (out.new.items ≡ out.old.items ++ act_bytes act.now (name.now ++ host_line port)) }
+    ensures { OnOk result
+        (out.new.items ≡ out.old.items ++ act_bytes act.now (name.now ++ host_line port)) }
 {
     match act {
         CloudAct::Put(body) => push_put(out, body.bytes(), name, port),
@@ -40,7 +41,8 @@ fn push_act(out: &mut Vec<u8>, act: &CloudAct, name: &[u8], port: u16) -> Result
 /// Writes a request to hold these bytes.
 fn push_put(out: &mut Vec<u8>, body: &[u8], name: &[u8], port: u16) -> Result<(), NoMemory>
     requires { length body.now ≤ MAX_VALUE }
-    ensures { OnOk result (out.new.items ≡ out.old.items ++ act_bytes (acts.Put body.now) (name.now ++ host_line port)) }
+    ensures { OnOk result (out.new.items
+        ≡ out.old.items ++ act_bytes (acts.Put body.now) (name.now ++ host_line port)) }
 {
     push_start(out, b"PUT ", name, port)?;
     push_length(out, body.len())?;
@@ -51,7 +53,8 @@ fn push_put(out: &mut Vec<u8>, body: &[u8], name: &[u8], port: u16) -> Result<()
 
 /// Writes a request without a body.
 fn push_bare(out: &mut Vec<u8>, method: &[u8], name: &[u8], port: u16) -> Result<(), NoMemory>
-    ensures { OnOk result (out.new.items ≡ out.old.items ++ (method.now ++ ((name.now ++ host_line port) ++ close_lines))) }
+    ensures { OnOk result (out.new.items
+        ≡ out.old.items ++ (method.now ++ ((name.now ++ host_line port) ++ close_lines))) }
 {
     push_start(out, method, name, port)?;
     push_end(out)
@@ -119,7 +122,8 @@ fn bare(alloc: Global) -> Result<Blob, NoMemory>
 
 /// Writes the first line of a request and its host.
 fn push_start(out: &mut Vec<u8>, method: &[u8], name: &[u8], port: u16) -> Result<(), NoMemory>
-    ensures { OnOk result (out.new.items ≡ out.old.items ++ (method.now ++ (name.now ++ host_line port))) }
+    ensures { OnOk result
+        (out.new.items ≡ out.old.items ++ (method.now ++ (name.now ++ host_line port))) }
 {
     out.extend_from_slice(method)?;
     out.extend_from_slice(name)?;

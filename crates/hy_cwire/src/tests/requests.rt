@@ -59,6 +59,7 @@ fn requests_of_curl_are_read(rt: HostRuntime) {
 fn requests_have_their_faults(rt: HostRuntime) {
     let alloc = rt.alloc();
     for (text, words) in [
+        ("\r\n\r\n", "NotHead(4), 400"),
         ("GET /o/a\r\n\r\n", "NotHead(12), 400"),
         (
             "GET /o/a/0000000100000001 HTTP/2\r\n\r\n",
@@ -139,6 +140,15 @@ fn http_faults_of_server(rt: HostRuntime) {
             "Content-Length: 0\r\nContent-Length: 0\r\n\r\n",
             "LengthTwice, 400",
         ),
+    ] {
+        with_fields(&rt, alloc, line, fields, words);
+    }
+}
+
+#[test]
+fn lengths_have_their_faults(rt: HostRuntime) {
+    let alloc = rt.alloc();
+    for (line, fields, words) in [
         ("PUT", "Content-Length: 3a\r\n\r\n", "NoLength, 411"),
         ("PUT", "Content-Length: +3\r\n\r\n", "NoLength, 411"),
         ("PUT", "Content-Length:\r\n\r\n", "NoLength, 411"),

@@ -1,5 +1,5 @@
 -- There is room for every field that a head can have.
-use Rattle.std.proofs.Common.{◌≡◌, length, arith, ap, ◌∙◌, append-nil, inr, refl}
+use Rattle.std.proofs.Common.{length, arith, ap, ◌∙◌, append-nil, inr, refl}
 use Rattle.httparse.specs.Grammar.{print_request}
 use Rattle.hy_cwire.proofs.FieldCounts.{request_fields}
 use Rattle.hy_cwire.proofs.ask_head.read_long_ask.Goals as goal

@@ -1,4 +1,4 @@
-use Rattle.std.proofs.Common.{◌≡◌, ◌<◌, ◌≤◌, ◌++◌, ℕ, Bool, false, take}
+use Rattle.std.proofs.Common.{◌≡◌, ◌<◌, ◌≤◌, ◌++◌, ℕ, false, take}
 use Rattle.hy_cwire.specs.Block.{ends_head}
 use Rattle.hy_cwire.proofs.block.end_in.Given as goal
 

@@ -1,10 +1,10 @@
 -- One more field.
-use Rattle.std.proofs.Common.{◌≡◌, ℕ, ◌+◌, ◌<◌, List, [], ◌∷◌, ◌++◌, length, map, take, drop, get_or, true, false, sym, ap, subst, ◌∙◌, refl, Bor}
+use Rattle.std.proofs.Common.{◌≡◌, ℕ, ◌+◌, ◌<◌, List, [], ◌∷◌, ◌++◌, length, map, take, drop, get_or, true, false, sym, ap, subst, ◌∙◌, Bor}
 use Rattle.std.proofs.lemmas.List.{take_more, take-append-drop, map-append}
 use Rattle.httparse.specs.declared.spans.HeaderSpan.{HeaderSpan}
 use Rattle.httparse.specs.Spans.{header_bytes}
 use Rattle.hy_cwire.specs.declared.fields.Named.{Named}
-use Rattle.hy_cwire.specs.declared.fields.Named.TheVariants.{None, One, Several}
+use Rattle.hy_cwire.specs.declared.fields.Named.TheVariants.{None, One}
 use Rattle.hy_cwire.specs.Lengths.{Pair, has_name, values_named}
 use Rattle.hy_cwire.specs.Named.{IsNamed}
 use Rattle.hy_cwire.proofs.Values.{values-nil, values-push, values-other, two-values}

@@ -1,5 +1,4 @@
 use Rattle.std.proofs.Common.{◌≡◌, ◌++◌, ap, ◌∙◌, Ok}
-use Rattle.hy_record.specs.declared.cloud.Wish.{Wish}
 use Rattle.hy_cwire.specs.declared.ask_head.AskHead.{AskHead}
 use Rattle.hy_cwire.specs.declared.progress.Progress.{Progress}
 use Rattle.hy_cwire.specs.declared.progress.Progress.TheVariants.{Body}

@@ -1,4 +1,4 @@
-use Rattle.std.proofs.Common.{◌≡◌, ℕ, List, [], length, drop, sym, ap, ◌∙◌, arith, length-drop}
+use Rattle.std.proofs.Common.{◌≡◌, [], length, drop, sym, ap, arith, length-drop}
 use Rattle.httparse.proofs.GrammarLemmas.{response_unique}
 use Rattle.hy_cwire.proofs.say_head.response_in.Goals as goal
 

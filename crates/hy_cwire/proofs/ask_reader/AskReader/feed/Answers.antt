@@ -1,5 +1,5 @@
 -- What the piece did to the request that came before.
-use Rattle.std.proofs.Common.{◌≡◌, sym, subst, ◌∙◌}
+use Rattle.std.proofs.Common.{sym, subst, ◌∙◌}
 use Rattle.hy_cwire.specs.Stages.{IsLive}
 use Rattle.hy_cwire.specs.Readers.{IsAskAt}
 use Rattle.hy_cwire.proofs.ask_reader.AskReader.feed.Goals as goal

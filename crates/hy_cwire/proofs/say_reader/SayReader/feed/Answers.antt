@@ -1,5 +1,5 @@
 -- What the piece did to the answer that came before.
-use Rattle.std.proofs.Common.{◌≡◌, sym, subst, ap, ◌∙◌}
+use Rattle.std.proofs.Common.{sym, subst, ap, ◌∙◌}
 use Rattle.hy_cwire.specs.Stages.{IsLive}
 use Rattle.hy_cwire.specs.Readers.{Answering, IsSayAt}
 use Rattle.hy_cwire.proofs.say_reader.SayReader.feed.Goals as goal

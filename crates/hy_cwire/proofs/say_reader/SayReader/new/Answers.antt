@@ -1,4 +1,4 @@
-use Rattle.std.proofs.Common.{arith, lit<}
+use Rattle.std.proofs.Common.{lit<}
 use Rattle.hy_cwire.proofs.Blocks.{no-block-nil}
 use Rattle.hy_cwire.proofs.say_reader.SayReader.new.Goals as goal
 
