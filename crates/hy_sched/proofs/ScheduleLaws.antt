@@ -1,6 +1,6 @@
 -- The two laws of the text of a schedule: what is read is spelled so, and what is spelled so is read.
 use Rattle.std.proofs.Common.{◌≡◌, ℕ, ◌+◌, ◌<◌, ◌≤◌, Bool, true, false, cond, ◌&&◌, nat_le, List, [], ◌∷◌, ◌++◌, length, map, Result, Ok, Err, refl, sym, ap, subst, ◌∙◌, arith, append-nil}
-use Rattle.std.specs.Prelude.{codes, IfOk}
+use Rattle.std.specs.Prelude.{IfOk}
 use Rattle.std.specs.List.{AllByRecursion, list_all}
 use Rattle.std.proofs.lemmas.Bool.{and_from, leb-false, lt-leb}
 use Rattle.std.proofs.lemmas.List.Sums.{sum_by-cons}
@@ -14,9 +14,9 @@ use Rattle.hy_base.specs.declared.limits.TheConstants.{MAX_EVENTS, MAX_SESSIONS}
 use Rattle.hy_base.proofs.Results.{bind_ok, ok_is}
 use Rattle.hy_text.specs.Gives.{GivesText, at_line, next_number}
 use Rattle.hy_text.specs.Kind.{is_next_due, item_in, items_from, item_from}
-use Rattle.hy_text.specs.Line.{Line, text_of, lines_of, is_row}
+use Rattle.hy_text.specs.Line.{Line, lines_of, is_row}
 use Rattle.hy_text.specs.OpenLine.{OpenLine, Rest, opened}
-use Rattle.hy_text.proofs.ItemRows.{rows_in, all_ended, line_of_row, lines_written, lines_written-rows, text_of-rows, item_ok, IsRowOf, Takes, ReadsAgain, FitAlong, AreLinesOf, state_after, items_take, items_again}
+use Rattle.hy_text.proofs.ItemRows.{rows_in, all_ended, line_of_row, lines_written, lines_written-rows, text_of-rows, item_ok, IsRowOf, Takes, ReadsAgain, FitAlong, state_after, items_take, items_again}
 use Rattle.hy_text.proofs.Rows.{lines_of-text_of}
 use Rattle.hy_text.proofs.Slots.{at_line_ok}
 use Rattle.hy_sched.specs.declared.event.Event.{Event}
@@ -25,7 +25,7 @@ use Rattle.hy_sched.specs.declared.params.Params.{Params}
 use Rattle.hy_sched.specs.declared.schedule.Schedule.{Schedule}
 use Rattle.hy_sched.specs.Params.{IsParams}
 use Rattle.hy_sched.specs.Ranges.{is_join, joined_count, IsTextEvent, IsSchedule}
-use Rattle.hy_sched.specs.Reading.{header_of, header_line, Before, event_of, room_for, joined_with, event_at, event_lines, schedule_at, schedule_of}
+use Rattle.hy_sched.specs.Reading.{header_line, Before, event_of, room_for, joined_with, event_at, event_lines, schedule_at, schedule_of}
 use Rattle.hy_sched.specs.Text.{header_row, event_row, schedule_rows, schedule_text, IsScheduleText}
 use Rattle.hy_sched.proofs.EventRows.{event_takes, event_again, event_is_row}
 use Rattle.hy_sched.proofs.HeaderRows.{header_takes, header_again, header_is_row}

@@ -1,5 +1,5 @@
 -- Reading the text of a schedule: the schedule, or the first fault.
-use Rattle.std.specs.Prelude.{ℕ, ◌+◌, ◌-◌, Bool, true, ◌&&◌, nat_le, if◌then◌else◌, List, [], ◌∷◌, map, codes, Result, Ok, Err}
+use Rattle.std.specs.Prelude.{ℕ, ◌+◌, ◌-◌, true, ◌&&◌, nat_le, if◌then◌else◌, List, [], ◌∷◌, map, codes, Result, Ok, Err}
 use Rattle.std.specs.Str.{bytes_eq}
 use Rattle.hy_base.specs.declared.fault.Cause.{Cause}
 use Rattle.hy_base.specs.declared.fault.Cause.TheVariants.{NoHeader, BadParams, BadNumber, TooManyOpen, TooManyLines}
@@ -12,7 +12,7 @@ use Rattle.hy_text.specs.Action.{action_from}
 use Rattle.hy_text.specs.Clouds.{cloud_set_of}
 use Rattle.hy_text.specs.Kind.{Kind, items_from, item_from}
 use Rattle.hy_text.specs.Line.{lines_of, first_word, later_words}
-use Rattle.hy_text.specs.OpenLine.{OpenLine, Rest, opened}
+use Rattle.hy_text.specs.OpenLine.{Rest, opened}
 use Rattle.hy_text.specs.Slot.{keyword, number_of, key_word, end_of}
 use Rattle.hy_text.specs.Stamp.{stamp_from}
 use Rattle.hy_text.specs.Table.{value_named}
