@@ -3,7 +3,8 @@
 use super::*;
 use hy_record::{Action, CloudSay, Key, Stamp};
 
-/// Schedules by what each shows: operations that run at once and step by step, forged answers, crashes, collections, and coded values.
+/// Schedules by what each shows: operations that run at once and step by step, forged answers,
+/// crashes, collections, and coded values.
 const WORKED: [(&str, &[u8]); 18] = [
     (
         "put then get",
@@ -127,7 +128,7 @@ fn key(rt: &impl Abort) -> Key {
     Key::read(b"a").ok().expect(rt, "a key")
 }
 
-/// The one event of the schedule.
+/// The one event of the schedule that has this line alone.
 fn only_event(rt: &impl Abort, alloc: Global, line: &[u8]) -> Event {
     let text = joined(rt, alloc, &[LIARS, line]);
     let schedule = read(rt, alloc, "one event", &text);
@@ -135,7 +136,7 @@ fn only_event(rt: &impl Abort, alloc: Global, line: &[u8]) -> Event {
     events.pop().expect(rt, "one event")
 }
 
-/// An answer of cloud 2 to the first operation of client 1.
+/// An answer of cloud 2 to operation 3 of client 1, about timestamp 4 5.
 fn lie(rt: &impl Abort, say: CloudSay) -> Event {
     Event::Lie {
         cloud: 2,
