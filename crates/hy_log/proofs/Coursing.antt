@@ -1,0 +1,284 @@
+-- One deed more changes the courses of operations as its effects tell.
+use Rattle.std.proofs.Common.{◌≡◌, ℕ, ◌+◌, Bool, true, false, cond, List, [], ◌∷◌, length, Option, Some, None, refl, sym, ap, subst, ◌∙◌, inl, inr, arith}
+use Rattle.std.specs.Prelude.{◌==◌, ◌&&◌, ◌||◌}
+use Rattle.std.specs.Option.{option_map, option_or}
+use Rattle.std.proofs.lemmas.Option.{none-some}
+use Rattle.std.proofs.lemmas.Bool.{eqb-true}
+use Rattle.std.proofs.lemmas.Bool.Decides.{nat_tests}
+use Rattle.hy_record.specs.declared.action.Action.{Action}
+use Rattle.hy_record.specs.declared.action.Action.TheVariants as asked
+use Rattle.hy_record.specs.declared.action.Reply.{Reply}
+use Rattle.hy_record.specs.declared.message.MetaAsk.{MetaAsk}
+use Rattle.hy_record.specs.declared.message.MetaAsk.TheVariants as asks
+use Rattle.hy_record.specs.declared.turn.Cue.{Cue}
+use Rattle.hy_record.specs.Record.{RecordValue}
+use Rattle.hy_record.specs.Stamp.{Timestamp, stamp_lt}
+use Rattle.hy_meta.specs.Service.{stamp_of_record, record_stamp}
+use Rattle.hy_meta.proofs.Rising.{cases_bool, both}
+use Rattle.hy_protocol.specs.Inputs.{has_of}
+use Rattle.hy_protocol.specs.Operations.{replied}
+use Rattle.hy_protocol.specs.Read.{Version, version_of, newer_version, read_reply}
+use Rattle.hy_protocol.specs.Write.{first_has, write_reply}
+use Rattle.hy_protocol.specs.Collect.{collect_reply}
+use Rattle.hy_trace.specs.Deeds.{Params, Deed, Joined, Began, Handed, Served, Granted, Stopped, Nothing, Start, served, inputs_of, start_of, start_at, reply_after, reply_of}
+use Rattle.hy_trace.specs.History.{Return, return_of}
+use Rattle.hy_trace.specs.Points.{version_made, newer_made, was_applied}
+use Rattle.hy_trace.specs.Trace.{IsTrace, IsIdle, Awaits}
+use Rattle.hy_trace.proofs.Growth.{or-none, start-same}
+use Rattle.hy_trace.proofs.Steps.{HasReplied}
+use Rattle.hy_theorems.proofs.RealTime.{return-reply}
+use Rattle.hy_log.specs.declared.course.Returned.{Returned}
+use Rattle.hy_log.specs.declared.course.Course.{Course}
+use Rattle.hy_log.specs.declared.course.News.TheVariants.{Heard, Replied, Updated}
+use Rattle.hy_log.specs.Effects.{return_with, return_at, heard_with, heard_at, updated_by, updated_at}
+use Rattle.hy_log.specs.Courses.{fresh, noted, noted_by, note_of_heard, note_of_return, note_of_update, kept_return, version_stamp, course_of}
+
+abbrev course : Option Returned → Option Timestamp → Option Timestamp → ℕ → Bool → Course
+course returned first version made is_applied = record { returned = returned; first = first; version = version; made = made; is_applied = is_applied }
+
+course-same : (r q : Option Returned) (f g v w : Option Timestamp) (m n : ℕ) (x y : Bool) → r ≡ q → f ≡ g → v ≡ w → m ≡ n → x ≡ y → course r f v m x ≡ course q g w n y
+course-same r q f g v w m n x y a b d e h = cc
+
+-- ---- returns
+
+abbrev pub return_now : ℕ → Option Reply → Option Return
+return_now at reply = option_map (λ (x : Reply). record { at = at; reply = x }) reply
+
+-- an operation without a return has no reply
+pub never-replied : (p : Params) (c o : ℕ) (t : List Deed) → return_of p c o t ≡ None → reply_of p c o t ≡ None
+unfolding return_of reply_of start_of
+never-replied p c o [] none = refl
+never-replied p c o (d ∷ t) none = by (return_of p c o t) (reply_after p c o (inputs_of c o (d ∷ t)) (start_of c o (d ∷ t))) none
+  where
+    by : (old : Option Return) (now : Option Reply) → option_or old (return_now (length t + 1) now) ≡ None → now ≡ None
+    by None None is = refl
+    by None (Some reply) is = absurd (none-some _ (sym is))
+    by (Some r) None is = refl
+    by (Some r) (Some reply) is = absurd (none-some r (sym is))
+
+-- what changes no reply changes no return
+return-same : (p : Params) (c o : ℕ) (d : Deed) (t : List Deed) → reply_of p c o (d ∷ t) ≡ reply_of p c o t → return_of p c o (d ∷ t) ≡ return_of p c o t
+unfolding return_of
+return-same p c o d t same = ap (λ (x : Option Reply). option_or (return_of p c o t) (return_now (length t + 1) x)) same ∙ by (return_of p c o t) refl
+  where
+    by : (old : Option Return) → return_of p c o t ≡ old → option_or old (return_now (length t + 1) (reply_of p c o t)) ≡ old
+    by None is = ap (return_now (length t + 1)) (never-replied p c o t is)
+    by (Some r) is = refl
+
+-- an operation that has no reply has no return
+unfinished-return : (p : Params) (c o : ℕ) (t : List Deed) → IsTrace p t → reply_of p c o t ≡ None → return_of p c o t ≡ None
+unfolding reply_of
+unfinished-return p c o t trace none = by (return_of p c o t) refl
+  where
+    by : (old : Option Return) → return_of p c o t ≡ old → old ≡ None
+    by None is = refl
+    by (Some r) is =
+        let h = return-reply p c o t r trace is in
+        absurd (none-some r.reply (sym none ∙ ap (reply_after p c o (inputs_of c o t)) h.began ∙ h.replies))
+
+-- an operation that took no input has no reply
+no-reply : (p : Params) (c o : ℕ) (a : Action) → replied p.f p.k c o a [] ≡ None
+unfolding replied write_reply read_reply collect_reply
+no-reply p c o (asked.Put key value) = refl
+no-reply p c o (asked.Delete key) = refl
+no-reply p c o (asked.Get key) = refl
+no-reply p c o (asked.Collect key) = refl
+
+no-reply-after : (p : Params) (c o : ℕ) (s : Option Start) → reply_after p c o [] s ≡ None
+no-reply-after p c o None = refl
+no-reply-after p c o (Some s) = no-reply p c o s.action
+
+-- ---- the deeds that change no course
+
+unchanged : (p : Params) (c o : ℕ) (d : Deed) (t : List Deed) → inputs_of c o (d ∷ t) ≡ inputs_of c o t → version_made c o (d ∷ t) ≡ version_made c o t →
+    was_applied (served (d ∷ t)) c o ≡ was_applied (served t) c o → reply_of p c o (d ∷ t) ≡ reply_of p c o t → course_of p (d ∷ t) c o ≡ course_of p t c o
+unfolding course_of
+unchanged p c o d t inputs made applied reply =
+    course-same _ _ _ _ _ _ _ _ _ _
+    (ap (option_map kept_return) (return-same p c o d t reply))
+    (ap (λ (x : List Cue). option_map stamp_of_record (first_has x)) inputs)
+    (ap (λ (x : List Cue). option_map version_stamp (version_of x)) inputs)
+    made applied
+
+reply-same : (p : Params) (c o : ℕ) (d : Deed) (t : List Deed) → inputs_of c o (d ∷ t) ≡ inputs_of c o t → start_of c o (d ∷ t) ≡ start_of c o t → reply_of p c o (d ∷ t) ≡ reply_of p c o t
+unfolding reply_of
+reply-same p c o d t inputs start = ap (λ (x : List Cue). reply_after p c o x (start_of c o (d ∷ t))) inputs ∙ ap (reply_after p c o (inputs_of c o t)) start
+
+started-same : (c o : ℕ) (d : Deed) (t : List Deed) → start_at c o d t ≡ None → start_of c o (d ∷ t) ≡ start_of c o t
+unfolding start_of
+started-same c o d t none = ap (option_or (start_of c o t)) none ∙ or-none (start_of c o t)
+
+-- ---- a beginning
+
+began-reply : (p : Params) (b n c o : ℕ) (a : Action) (t : List Deed) → IsIdle p b n t → reply_of p c o (Began b n a ∷ t) ≡ reply_of p c o t
+unfolding reply_of inputs_of
+began-reply p b n c o a t idle =
+    elim (cases_bool ((b == c) && (n == o))) [
+      | inl own ↦
+          let tests = both (b == c) (n == o) own in
+          let inputs : inputs_of c o t ≡ [] = subst (λ (y : ℕ). inputs_of c y t ≡ []) (eqb-true n o tests.1) (subst (λ (x : ℕ). inputs_of x n t ≡ []) (eqb-true b c tests.0) idle.inputs) in
+          ap (λ (x : List Cue). reply_after p c o x (start_of c o (Began b n a ∷ t))) inputs ∙ no-reply-after p c o (start_of c o (Began b n a ∷ t))
+          ∙ sym (ap (λ (x : List Cue). reply_after p c o x (start_of c o t)) inputs ∙ no-reply-after p c o (start_of c o t))
+      | inr other ↦ ap (reply_after p c o (inputs_of c o t)) (started-same c o (Began b n a) t (rw other refl))
+    ]
+
+-- ---- an update that is served
+
+updated-step : (p : Params) (c o : ℕ) (ask : MetaAsk) (t : List Deed) → course_of p (Served ask ∷ t) c o ≡ noted_by (note_of_update (updated_by ask (served t))) c o (course_of p t c o)
+unfolding course_of served inputs_of version_made was_applied
+updated-step p c o ask t = by ask (return-same p c o (Served ask) t (reply-same p c o (Served ask) t refl (started-same c o (Served ask) t refl)))
+  where
+    by : (x : MetaAsk) → return_of p c o (Served ask ∷ t) ≡ return_of p c o t →
+        course (option_map kept_return (return_of p c o (Served ask ∷ t))) (option_map stamp_of_record (first_has (inputs_of c o t))) (option_map version_stamp (version_of (inputs_of c o t))) (version_made c o t) (was_applied (x ∷ served t) c o)
+        ≡ noted_by (note_of_update (updated_by x (served t))) c o (course_of p t c o)
+    by (asks.Update b n k r) same =
+        elim (cases_bool ((b == c) && (n == o))) [
+          | inl own ↦ rw own (course-same _ _ _ _ _ _ _ _ _ _ (ap (option_map kept_return) same) refl refl refl refl)
+          | inr other ↦ rw other (course-same _ _ _ _ _ _ _ _ _ _ (ap (option_map kept_return) same) refl refl refl refl)
+        ]
+    by (asks.Read b n k) same = course-same _ _ _ _ _ _ _ _ _ _ (ap (option_map kept_return) same) refl refl refl refl
+    by (asks.Watch b n k s) same = course-same _ _ _ _ _ _ _ _ _ _ (ap (option_map kept_return) same) refl refl refl refl
+    by (asks.Olds b n k) same = course-same _ _ _ _ _ _ _ _ _ _ (ap (option_map kept_return) same) refl refl refl refl
+    by (asks.Forget b n k ss) same = course-same _ _ _ _ _ _ _ _ _ _ (ap (option_map kept_return) same) refl refl refl refl
+
+-- ---- an input that is handed over
+
+-- the course after an answer that tells this record or none
+abbrev after_has : ℕ → Option (Option RecordValue) → Course → Course
+after_has made None x = x
+after_has made (Some r) x = noted (Heard (stamp_of_record r) made) x
+
+-- the course after a reply or none
+abbrev after_reply : ℕ → Option Reply → Course → Course
+after_reply at None x = x
+after_reply at (Some reply) x = noted (Replied at reply) x
+
+self : (c o : ℕ) → (c == c && o == o) ≡ true
+self c o = grind (arith, nat_tests)
+
+heard-own : (c o w : ℕ) (h : Option (Option RecordValue)) (x : Course) → noted_by (note_of_heard (heard_with c o w h)) c o x ≡ after_has w h x
+heard-own c o w None x = refl
+heard-own c o w (Some r) x = rw (self c o) refl
+
+heard-other : (b n c o w : ℕ) (h : Option (Option RecordValue)) (x : Course) → (b == c && n == o) ≡ false → noted_by (note_of_heard (heard_with b n w h)) c o x ≡ x
+heard-other b n c o w None x other = refl
+heard-other b n c o w (Some r) x other = rw other refl
+
+returned-own : (c o at : ℕ) (reply : Option Reply) (x : Course) → noted_by (note_of_return at (return_with c o reply)) c o x ≡ after_reply at reply x
+returned-own c o at None x = refl
+returned-own c o at (Some reply) x = rw (self c o) refl
+
+returned-other : (b n c o at : ℕ) (reply : Option Reply) (x : Course) → (b == c && n == o) ≡ false → noted_by (note_of_return at (return_with b n reply)) c o x ≡ x
+returned-other b n c o at None x other = refl
+returned-other b n c o at (Some reply) x other = rw other refl
+
+-- what it was told first, its version and where that was made
+after_has-is : (w : ℕ) (cue : Cue) (h : Option (Option RecordValue)) (a : Option (Option RecordValue)) (v : Option Version) (ret : Option Returned) (m : ℕ) (x : Bool) →
+    course ret (option_map stamp_of_record (option_or a h)) (option_map version_stamp (newer_version v cue h)) (newer_made v h w m) x
+    ≡ after_has w h (course ret (option_map stamp_of_record a) (option_map version_stamp v) m x)
+after_has-is w cue None None None ret m x = refl
+after_has-is w cue None None (Some v) ret m x = refl
+after_has-is w cue None (Some q) None ret m x = refl
+after_has-is w cue None (Some q) (Some v) ret m x = refl
+after_has-is w cue (Some r) None None ret m x = refl
+after_has-is w cue (Some r) (Some q) None ret m x = refl
+after_has-is w cue (Some r) None (Some v) ret m x = by (stamp_lt (stamp_of_record v.rec) (stamp_of_record r))
+  where
+    by : (b : Bool) → course ret (Some (stamp_of_record r)) (option_map version_stamp (cond b (Some (record { rec = r; since = [] })) (Some (record { rec = v.rec; since = cue ∷ v.since })))) (cond b w m) x
+        ≡ course ret (Some (stamp_of_record r)) (cond b (Some (stamp_of_record r)) (Some (version_stamp v))) (cond b w m) x
+    by true = refl
+    by false = refl
+after_has-is w cue (Some r) (Some q) (Some v) ret m x = by (stamp_lt (stamp_of_record v.rec) (stamp_of_record r))
+  where
+    by : (b : Bool) → course ret (Some (stamp_of_record q)) (option_map version_stamp (cond b (Some (record { rec = r; since = [] })) (Some (record { rec = v.rec; since = cue ∷ v.since })))) (cond b w m) x
+        ≡ course ret (Some (stamp_of_record q)) (cond b (Some (stamp_of_record r)) (Some (version_stamp v))) (cond b w m) x
+    by true = refl
+    by false = refl
+
+after_has-keeps : (w : ℕ) (h : Option (Option RecordValue)) (ret : Option Returned) (f v : Option Timestamp) (m : ℕ) (x : Bool) → (after_has w h (course ret f v m x)).returned ≡ ret
+after_has-keeps w None ret f v m x = refl
+after_has-keeps w (Some r) ret f v m x = refl
+
+-- a reply where there was none
+after_reply-is : (at : ℕ) (reply : Option Reply) (x : Course) → x.returned ≡ None →
+    course (option_map kept_return (return_now at reply)) x.first x.version x.made x.is_applied ≡ after_reply at reply x
+after_reply-is at None x none = course-same _ _ _ _ _ _ _ _ _ _ (sym none) refl refl refl refl
+after_reply-is at (Some reply) x none = refl
+
+module _ (p : Params) (c o w : ℕ) (cue : Cue) (t : List Deed) (trace : IsTrace p t) (awaits : Awaits p c o cue t) where
+  abbrev before : Course
+  before = course_of p t c o
+
+  abbrev reply : Option Reply
+  reply = reply_after p c o (cue ∷ inputs_of c o t) (start_of c o t)
+
+  no-return : return_of p c o t ≡ None
+  unfolding reply_of
+  no-return = unfinished-return p c o t trace (ap (reply_after p c o (inputs_of c o t)) awaits.began ∙ awaits.unfinished)
+
+  own-inputs : inputs_of c o (Handed c o w cue ∷ t) ≡ cue ∷ inputs_of c o t
+  unfolding inputs_of
+  own-inputs = rw (self c o) refl
+
+  own-made : version_made c o (Handed c o w cue ∷ t) ≡ newer_made (version_of (inputs_of c o t)) (has_of cue) w (version_made c o t)
+  unfolding version_made
+  own-made = rw (self c o) refl
+
+  own-return : return_of p c o (Handed c o w cue ∷ t) ≡ return_now (length t + 1) reply
+  unfolding return_of reply_of
+  own-return =
+      ap (λ (x : Option Return). option_or x (return_now (length t + 1) (reply_after p c o (inputs_of c o (Handed c o w cue ∷ t)) (start_of c o (Handed c o w cue ∷ t))))) no-return
+      ∙ ap (λ (x : List Cue). return_now (length t + 1) (reply_after p c o x (start_of c o (Handed c o w cue ∷ t)))) own-inputs
+      ∙ ap (λ (x : Option Start). return_now (length t + 1) (reply_after p c o (cue ∷ inputs_of c o t) x)) (started-same c o (Handed c o w cue) t refl)
+
+  own-course : course_of p (Handed c o w cue ∷ t) c o ≡ after_reply (length t + 1) reply (after_has w (has_of cue) before)
+  unfolding course_of served first_has version_of
+  own-course =
+      let told = after_has-is w cue (has_of cue) (first_has (inputs_of c o t)) (version_of (inputs_of c o t)) (option_map kept_return (return_of p c o t)) (version_made c o t) (was_applied (served t) c o) in
+      course-same _ _ _ _ _ _ _ _ _ _
+      (ap (option_map kept_return) own-return)
+      (ap (λ (x : List Cue). option_map stamp_of_record (first_has x)) own-inputs ∙ ap (λ (x : Course). x.first) told)
+      (ap (λ (x : List Cue). option_map version_stamp (version_of x)) own-inputs ∙ ap (λ (x : Course). x.version) told)
+      (own-made ∙ ap (λ (x : Course). x.made) told)
+      (ap (λ (x : Course). x.is_applied) told)
+      ∙ after_reply-is (length t + 1) reply (after_has w (has_of cue) before)
+      (after_has-keeps w (has_of cue) (option_map kept_return (return_of p c o t)) (option_map stamp_of_record (first_has (inputs_of c o t))) (option_map version_stamp (version_of (inputs_of c o t))) (version_made c o t) (was_applied (served t) c o) ∙ ap (option_map kept_return) no-return)
+
+-- ---- all deeds
+
+-- the course of an operation after the effects of a deed
+abbrev pub after : Params → Deed → List Deed → ℕ → ℕ → Course → Course
+after p d t c o x = noted_by (note_of_update (updated_at d t)) c o (noted_by (note_of_return (length t + 1) (return_at p d t)) c o (noted_by (note_of_heard (heard_at d)) c o x))
+
+handed-step : (p : Params) (b n w c o : ℕ) (cue : Cue) (t : List Deed) → IsTrace p t → Awaits p b n cue t → course_of p (Handed b n w cue ∷ t) c o ≡ after p (Handed b n w cue) t c o (course_of p t c o)
+unfolding inputs_of version_made served
+handed-step p b n w c o cue t trace awaits =
+    elim (cases_bool ((b == c) && (n == o))) [
+      | inl own ↦
+          let tests = both (b == c) (n == o) own in
+          let here : course_of p (Handed b n w cue ∷ t) b n ≡ after p (Handed b n w cue) t b n (course_of p t b n) =
+          own-course p b n w cue t trace awaits
+          ∙ sym (ap (λ (x : Course). noted_by (note_of_return (length t + 1) (return_at p (Handed b n w cue) t)) b n x) (heard-own b n w (has_of cue) (course_of p t b n))
+          ∙ returned-own b n (length t + 1) (reply_after p b n (cue ∷ inputs_of b n t) (start_of b n t)) (after_has w (has_of cue) (course_of p t b n))) in
+          subst (λ (y : ℕ). course_of p (Handed b n w cue ∷ t) c y ≡ after p (Handed b n w cue) t c y (course_of p t c y)) (eqb-true n o tests.1)
+          (subst (λ (x : ℕ). course_of p (Handed b n w cue ∷ t) x n ≡ after p (Handed b n w cue) t x n (course_of p t x n)) (eqb-true b c tests.0) here)
+      | inr other ↦
+          unchanged p c o (Handed b n w cue) t (rw other refl) (rw other refl) refl (reply-same p c o (Handed b n w cue) t (rw other refl) (started-same c o (Handed b n w cue) t refl))
+          ∙ sym (ap (λ (x : Course). noted_by (note_of_return (length t + 1) (return_at p (Handed b n w cue) t)) c o x) (heard-other b n c o w (has_of cue) (course_of p t c o) other)
+          ∙ returned-other b n c o (length t + 1) (reply_after p b n (cue ∷ inputs_of b n t) (start_of b n t)) (course_of p t c o) other)
+    ]
+
+pub course-step : (p : Params) (d : Deed) (t : List Deed) (c o : ℕ) → IsTrace p (d ∷ t) → course_of p (d ∷ t) c o ≡ after p d t c o (course_of p t c o)
+unfolding IsTrace inputs_of version_made served
+course-step p Joined t c o trace = unchanged p c o Joined t refl refl refl (reply-same p c o Joined t refl (started-same c o Joined t refl))
+course-step p (Began b n a) t c o trace = unchanged p c o (Began b n a) t refl refl refl (began-reply p b n c o a t trace.0)
+course-step p (Handed b n w cue) t c o trace = handed-step p b n w c o cue t trace.1 trace.0.0
+course-step p (Served ask) t c o trace = updated-step p c o ask t
+course-step p (Granted ask) t c o trace = unchanged p c o (Granted ask) t refl refl refl (reply-same p c o (Granted ask) t refl (started-same c o (Granted ask) t refl))
+course-step p (Stopped b) t c o trace = unchanged p c o (Stopped b) t refl refl refl (reply-same p c o (Stopped b) t refl (started-same c o (Stopped b) t refl))
+course-step p Nothing t c o trace = unchanged p c o Nothing t refl refl refl (reply-same p c o Nothing t refl (started-same c o Nothing t refl))
+
+-- nothing was done
+pub course-start : (p : Params) (c o : ℕ) → course_of p [] c o ≡ fresh
+unfolding course_of return_of inputs_of first_has version_of version_made was_applied served
+course-start p c o = refl

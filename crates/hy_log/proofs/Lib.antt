@@ -1,0 +1,4 @@
+pub mod Coursing
+pub mod Keeping
+pub mod Padding
+pub mod Telling

@@ -1,0 +1,105 @@
+-- The course of an operation: what has become of it since it began.
+use Rattle.std.specs.Prelude.{◌≡◌, ℕ, ◌+◌, Bool, true, false, ◌==◌, ◌&&◌, ◌||◌, List, [], ◌∷◌, Option, Some, None, slice_index_or, if◌then◌else◌}
+use Rattle.std.specs.Option.{option_map, option_or}
+use Rattle.hy_record.specs.declared.action.Reply.{Reply}
+use Rattle.hy_record.specs.Stamp.{Timestamp, stamp_lt}
+use Rattle.hy_meta.specs.Service.{stamp_of_record}
+use Rattle.hy_protocol.specs.Read.{Version, version_of}
+use Rattle.hy_protocol.specs.Write.{first_has}
+use Rattle.hy_trace.specs.Deeds.{Params, Deed, served, inputs_of}
+use Rattle.hy_trace.specs.History as history
+use Rattle.hy_trace.specs.Points.{version_made, was_applied}
+use Rattle.hy_log.specs.declared.course.Returned.{Returned}
+use Rattle.hy_log.specs.declared.course.Course.{Course}
+use Rattle.hy_log.specs.declared.course.News.{News}
+use Rattle.hy_log.specs.declared.course.News.TheVariants.{Heard, Replied, Updated}
+use Rattle.hy_log.specs.declared.notes.Note.{Note}
+use Rattle.hy_log.specs.declared.effects.Heard as effects
+use Rattle.hy_log.specs.declared.effects.Return.{Return}
+use Rattle.hy_log.specs.declared.effects.Updated as updates
+
+-- nothing has become of the operation
+abbrev pub fresh : Course
+fresh = record { returned = None; first = None; version = None; made = 0; is_applied = false }
+
+-- the timestamp is above the one known, or none is known
+abbrev pub is_newer : Option Timestamp → Timestamp → Bool
+is_newer None stamp = true
+is_newer (Some known) stamp = stamp_lt known stamp
+
+-- the course after what the operation met
+abbrev pub noted : News → Course → Course
+noted (Heard stamp made) course =
+    record {
+      returned = course.returned;
+      first = option_or course.first (Some stamp);
+      version = if is_newer course.version stamp then Some stamp else course.version;
+      made = if is_newer course.version stamp then made else course.made;
+      is_applied = course.is_applied;
+    }
+noted (Replied at reply) course =
+    record {
+      returned = Some (record { at = at; reply = reply });
+      first = course.first;
+      version = course.version;
+      made = course.made;
+      is_applied = course.is_applied;
+    }
+noted (Updated is_applied) course =
+    record {
+      returned = course.returned;
+      first = course.first;
+      version = course.version;
+      made = course.made;
+      is_applied = is_applied || course.is_applied;
+    }
+
+-- what an operation meets where it is told the record
+abbrev pub note_of_heard : Option effects.Heard → Option Note
+note_of_heard None = None
+note_of_heard (Some h) = Some (record { client = h.client; op = h.op; news = Heard h.stamp h.made })
+
+-- what an operation meets where it replies, at this step
+abbrev pub note_of_return : ℕ → Option Return → Option Note
+note_of_return at None = None
+note_of_return at (Some r) = Some (record { client = r.client; op = r.op; news = Replied at r.reply })
+
+-- what an operation meets where its update is served
+abbrev pub note_of_update : Option updates.Updated → Option Note
+note_of_update None = None
+note_of_update (Some u) = Some (record { client = u.client; op = u.op; news = Updated u.is_applied })
+
+-- the course of this operation after a note, which may be of another one
+abbrev pub noted_by : Option Note → ℕ → ℕ → Course → Course
+noted_by None c o course = course
+noted_by (Some note) c o course = if note.client == c && note.op == o then noted note.news course else course
+
+-- the course at this number in the list of a client; past its end nothing was noted
+abbrev pub course_in : List Course → ℕ → Course
+course_in courses o = slice_index_or courses o fresh
+
+-- the course of this operation of the client in the lists of all
+abbrev pub course_at : List (List Course) → ℕ → ℕ → Course
+course_at clients c o = course_in (slice_index_or clients c []) o
+
+-- when an operation returned, as it is kept
+abbrev pub kept_return : history.Return → Returned
+kept_return r = record { at = r.at; reply = r.reply }
+
+abbrev pub version_stamp : Version → Timestamp
+version_stamp v = stamp_of_record v.rec
+
+-- the course of an operation in a trace
+unfoldable pub course_of : Params → List Deed → ℕ → ℕ → Course
+course_of p t c o =
+    record {
+      returned = option_map kept_return (history.return_of p c o t);
+      first = option_map stamp_of_record (first_has (inputs_of c o t));
+      version = option_map version_stamp (version_of (inputs_of c o t));
+      made = version_made c o t;
+      is_applied = was_applied (served t) c o;
+    }
+
+-- each operation's course is that of the trace
+abbrev pub AreCourses : Params → List Deed → List (List Course) → Type 0
+AreCourses p t clients = (c o : ℕ) → course_at clients c o ≡ course_of p t c o

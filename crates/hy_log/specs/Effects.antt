@@ -1,0 +1,101 @@
+-- What a deed leads to.
+use Rattle.std.specs.Prelude.{◌≡◌, ℕ, ◌+◌, List, [], ◌∷◌, map, length, Option, Some, None}
+use Rattle.hy_record.specs.declared.action.Reply.{Reply}
+use Rattle.hy_record.specs.declared.message.MetaAsk.{MetaAsk}
+use Rattle.hy_record.specs.declared.message.MetaAsk.TheVariants as asks
+use Rattle.hy_record.specs.declared.turn.Cue.{Cue}
+use Rattle.hy_record.specs.declared.turn.Cue.TheVariants as cues
+use Rattle.hy_record.specs.Record.{RecordValue}
+use Rattle.hy_record.specs.Stamp.{Timestamp, stamp_lt}
+use Rattle.hy_meta.specs.Service.{stamp_of_record, record_stamp}
+use Rattle.hy_protocol.specs.Inputs.{has_of}
+use Rattle.hy_trace.specs.Deeds.{Params, Deed, Joined, Began, Handed, Served, Granted, Stopped, Nothing, served, inputs_of, start_of, reply_after}
+use Rattle.hy_trace.specs.Messages.{Message, Ask, Say, Request, Answer, sent_at}
+use Rattle.hy_log.specs.declared.post.Post.{Post}
+use Rattle.hy_log.specs.declared.post.Post.TheVariants as posts
+use Rattle.hy_log.specs.declared.effects.Beginning.{Beginning}
+use Rattle.hy_log.specs.declared.effects.Return.{Return}
+use Rattle.hy_log.specs.declared.effects.Heard.{Heard}
+use Rattle.hy_log.specs.declared.effects.Updated.{Updated}
+use Rattle.hy_log.specs.declared.effects.Effects.{Effects}
+
+-- a message as it is kept
+abbrev pub post_of : Message → Post
+post_of (Ask ask) = posts.Ask ask
+post_of (Say say) = posts.Answer (cues.Meta say)
+post_of (Request ask) = posts.Request ask
+post_of (Answer reply) = posts.Answer (cues.Cloud reply)
+
+-- what begins at a deed
+abbrev pub beginning_at : Deed → Option Beginning
+beginning_at (Began c o a) = Some (record { client = c; op = o; action = a })
+beginning_at Joined = None
+beginning_at (Handed c o made cue) = None
+beginning_at (Served ask) = None
+beginning_at (Granted ask) = None
+beginning_at (Stopped c) = None
+beginning_at Nothing = None
+
+-- a reply, if there is one, as an operation's
+abbrev pub return_with : ℕ → ℕ → Option Reply → Option Return
+return_with c o None = None
+return_with c o (Some reply) = Some (record { client = c; op = o; reply = reply })
+
+-- what is returned at a deed
+abbrev pub return_at : Params → Deed → List Deed → Option Return
+return_at p (Handed c o made cue) before = return_with c o (reply_after p c o (cue ∷ inputs_of c o before) (start_of c o before))
+return_at p (Began c o a) before = None
+return_at p Joined before = None
+return_at p (Served ask) before = None
+return_at p (Granted ask) before = None
+return_at p (Stopped c) before = None
+return_at p Nothing before = None
+
+-- a record that an operation was told, by an answer that was made at this step
+abbrev pub heard_with : ℕ → ℕ → ℕ → Option (Option RecordValue) → Option Heard
+heard_with c o made None = None
+heard_with c o made (Some r) = Some (record { client = c; op = o; stamp = stamp_of_record r; made = made })
+
+-- what an operation is told of the record at a deed
+abbrev pub heard_at : Deed → Option Heard
+heard_at (Handed c o made cue) = heard_with c o made (has_of cue)
+heard_at (Began c o a) = None
+heard_at Joined = None
+heard_at (Served ask) = None
+heard_at (Granted ask) = None
+heard_at (Stopped c) = None
+heard_at Nothing = None
+
+-- the update that the service serves by this request
+abbrev pub updated_by : MetaAsk → List MetaAsk → Option Updated
+updated_by (asks.Update c o k r) before = Some (record { client = c; op = o; is_applied = stamp_lt (record_stamp before k) r.stamp })
+updated_by (asks.Read c o k) before = None
+updated_by (asks.Watch c o k s) before = None
+updated_by (asks.Olds c o k) before = None
+updated_by (asks.Forget c o k ss) before = None
+
+-- the update that the service serves at a deed
+abbrev pub updated_at : Deed → List Deed → Option Updated
+updated_at (Served ask) before = updated_by ask (served before)
+updated_at (Began c o a) before = None
+updated_at Joined before = None
+updated_at (Handed c o made cue) before = None
+updated_at (Granted ask) before = None
+updated_at (Stopped c) before = None
+updated_at Nothing before = None
+
+-- the effects of a deed
+pub record AreEffects (p : Params) (d : Deed) (t : List Deed) (e : Effects) : Type 0 where
+  pub posts : e.posts.items ≡ map post_of (sent_at p d t)
+  pub began : e.began ≡ beginning_at d
+  pub returned : e.returned ≡ return_at p d t
+  pub heard : e.heard ≡ heard_at d
+  pub updated : e.updated ≡ updated_at d t
+
+-- nothing is sent or told
+pub record AreNone (e : Effects) : Type 0 where
+  pub posts : e.posts.items ≡ []
+  pub began : e.began ≡ None
+  pub returned : e.returned ≡ None
+  pub heard : e.heard ≡ None
+  pub updated : e.updated ≡ None

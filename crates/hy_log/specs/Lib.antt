@@ -1,0 +1,4 @@
+pub mod Courses
+pub mod Effects
+pub mod History
+pub mod Log

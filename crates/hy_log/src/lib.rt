@@ -1,0 +1,18 @@
+//! What is kept of the steps of a store: the messages, and the operations with what a report tells of them.
+#![tactic(auto)]
+
+mod copies;
+mod course;
+mod courses;
+mod effects;
+mod history;
+mod log;
+mod notes;
+mod orders;
+mod post;
+
+pub use course::{Course, Returned};
+pub use courses::Courses;
+pub use effects::{Beginning, Effects, Heard, Return, Updated, return_of};
+pub use log::{Log, Started};
+pub use post::{Post, Posted, posts_of, posts_of_says};
