@@ -1,6 +1,6 @@
 -- One deed more changes the courses of operations as its effects tell.
 use Rattle.std.proofs.Common.{◌≡◌, ℕ, ◌+◌, Bool, true, false, cond, List, [], ◌∷◌, length, Option, Some, None, refl, sym, ap, subst, ◌∙◌, inl, inr, arith}
-use Rattle.std.specs.Prelude.{◌==◌, ◌&&◌, ◌||◌}
+use Rattle.std.specs.Prelude.{◌==◌, ◌&&◌}
 use Rattle.std.specs.Option.{option_map, option_or}
 use Rattle.std.proofs.lemmas.Option.{none-some}
 use Rattle.std.proofs.lemmas.Bool.{eqb-true}
@@ -13,7 +13,7 @@ use Rattle.hy_record.specs.declared.message.MetaAsk.TheVariants as asks
 use Rattle.hy_record.specs.declared.turn.Cue.{Cue}
 use Rattle.hy_record.specs.Record.{RecordValue}
 use Rattle.hy_record.specs.Stamp.{Timestamp, stamp_lt}
-use Rattle.hy_meta.specs.Service.{stamp_of_record, record_stamp}
+use Rattle.hy_meta.specs.Service.{stamp_of_record}
 use Rattle.hy_meta.proofs.Rising.{cases_bool, both}
 use Rattle.hy_protocol.specs.Inputs.{has_of}
 use Rattle.hy_protocol.specs.Operations.{replied}
@@ -24,12 +24,11 @@ use Rattle.hy_trace.specs.Deeds.{Params, Deed, Joined, Began, Handed, Served, Gr
 use Rattle.hy_trace.specs.History.{Return, return_of}
 use Rattle.hy_trace.specs.Points.{version_made, newer_made, was_applied}
 use Rattle.hy_trace.specs.Trace.{IsTrace, IsIdle, Awaits}
-use Rattle.hy_trace.proofs.Growth.{or-none, start-same}
-use Rattle.hy_trace.proofs.Steps.{HasReplied}
+use Rattle.hy_trace.proofs.Growth.{or-none}
 use Rattle.hy_theorems.proofs.RealTime.{return-reply}
 use Rattle.hy_log.specs.declared.course.Returned.{Returned}
 use Rattle.hy_log.specs.declared.course.Course.{Course}
-use Rattle.hy_log.specs.declared.course.News.TheVariants.{Heard, Replied, Updated}
+use Rattle.hy_log.specs.declared.course.News.TheVariants.{Heard, Replied}
 use Rattle.hy_log.specs.Effects.{return_with, return_at, heard_with, heard_at, updated_by, updated_at}
 use Rattle.hy_log.specs.Courses.{fresh, noted, noted_by, note_of_heard, note_of_return, note_of_update, kept_return, version_stamp, course_of}
 

@@ -19,7 +19,7 @@ use Rattle.hy_log.specs.declared.effects.Updated.{Updated}
 use Rattle.hy_trace.specs.Trace.{IsTrace}
 use Rattle.hy_log.specs.Courses.{noted_by, note_of_heard, note_of_return, note_of_update, course_at, course_of, AreCourses}
 use Rattle.hy_log.proofs.Coursing.{course-step}
-use Rattle.hy_log.specs.Effects.{AreEffects, post_of, beginning_at, return_at, heard_at, updated_at}
+use Rattle.hy_log.specs.Effects.{AreEffects, post_of, beginning_at, return_at, updated_at}
 use Rattle.hy_log.specs.Log.{LogKeeps, posted, started, posted_of, started_of, posted_at}
 
 -- the courses after the notes of a deed's effects

@@ -1,4 +1,11 @@
+pub mod Askers
 pub mod Coursing
+pub mod EntryLemmas
+pub mod Filling
 pub mod Keeping
+pub mod Marking
+pub mod Ordered
 pub mod Padding
+pub mod Sorting
+pub mod Spreading
 pub mod Telling

@@ -1,34 +1,30 @@
 -- What the log tells of the operations of a trace is the history of the trace.
-use Rattle.std.proofs.Common.{◌≡◌, ℕ, ◌+◌, ◌-◌, Bool, true, false, cond, List, [], ◌∷◌, ◌++◌, length, map, reverse, take, Option, Some, None, refl, sym, ap, subst, ◌∙◌, inl, inr, arith}
-use Rattle.std.specs.Prelude.{◌==◌, ◌&&◌, is_some, slice_index_or}
+use Rattle.std.proofs.Common.{◌≡◌, ℕ, ◌+◌, ◌-◌, List, [], ◌∷◌, ◌++◌, length, map, reverse, take, Option, Some, None, refl, sym, ap, subst, ◌∙◌, inl, inr, arith}
+use Rattle.std.specs.Prelude.{◌==◌, is_some, slice_index_or}
 use Rattle.std.specs.List.{AllByRecursion}
-use Rattle.std.specs.Option.{option_map, option_or}
+use Rattle.std.specs.Option.{option_map}
 use Rattle.std.proofs.lemmas.Bool.{eqb-true, eq-eqb, false≢true, both_ways}
 use Rattle.std.proofs.lemmas.List.{map-append, append-nil}
-use Rattle.std.proofs.lemmas.Option.{none-some, same_Some}
-use Rattle.hy_meta.proofs.Rising.{cases_bool, both}
+use Rattle.hy_meta.proofs.Rising.{cases_bool}
 use Rattle.hy_protocol.specs.Progress as protocol
 use Rattle.hy_operation.specs.declared.progress.Progress.{Progress}
 use Rattle.hy_order.specs.declared.operation.End.{End}
 use Rattle.hy_order.specs.declared.operation.Operation.{Operation}
 use Rattle.hy_order.specs.History.{IsNumberedFrom}
-use Rattle.hy_trace.specs.Deeds.{Params, Deed, Joined, Began, Handed, Served, Granted, Stopped, Nothing, Start, inputs_of, start_of, start_at, reply_of, begun}
+use Rattle.hy_trace.specs.Deeds.{Params, Deed, Joined, Began, Handed, Served, Granted, Stopped, Nothing, Start, inputs_of, start_of, reply_of, begun}
 use Rattle.hy_trace.specs.History.{Return, return_of, Begun, begun_of, end_of, operation_of, history_of}
-use Rattle.hy_trace.specs.Trace.{IsTrace, IsIdle, Fits}
-use Rattle.hy_trace.proofs.Growth.{or-cases}
+use Rattle.hy_trace.specs.Trace.{IsTrace}
 use Rattle.hy_trace.proofs.Steps.{trace-numbered}
 use Rattle.hy_theorems.proofs.Beginnings.{begun-are}
 use Rattle.hy_theorems.proofs.Histories.{is-history}
 use Rattle.hy_theorems.proofs.Listing.{reverse-more, all-reverse}
 use Rattle.hy_log.specs.declared.course.Course.{Course}
-use Rattle.hy_log.specs.declared.course.Returned.{Returned}
 use Rattle.hy_log.specs.declared.log.Started.{Started}
 use Rattle.hy_log.specs.declared.post.Posted.{Posted}
 use Rattle.hy_record.specs.declared.action.Action.{Action}
-use Rattle.hy_log.specs.Courses.{course_at, course_of, kept_return, AreCourses}
-use Rattle.hy_log.specs.Effects.{beginning_at}
+use Rattle.hy_log.specs.Courses.{course_of, kept_return, AreCourses}
 use Rattle.hy_log.specs.History.{AreRunning, told_progress, told_end, told_operation, told_from}
-use Rattle.hy_log.specs.Log.{LogKeeps, started, started_of}
+use Rattle.hy_log.specs.Log.{LogKeeps, started_of}
 use Rattle.hy_log.proofs.Coursing.{never-replied}
 
 -- ---- operation by operation

@@ -1,7 +1,6 @@
 -- The course of an operation: what has become of it since it began.
-use Rattle.std.specs.Prelude.{◌≡◌, ℕ, ◌+◌, Bool, true, false, ◌==◌, ◌&&◌, ◌||◌, List, [], ◌∷◌, Option, Some, None, slice_index_or, if◌then◌else◌}
+use Rattle.std.specs.Prelude.{◌≡◌, ℕ, Bool, true, false, ◌==◌, ◌&&◌, ◌||◌, List, [], Option, Some, None, slice_index_or, if◌then◌else◌}
 use Rattle.std.specs.Option.{option_map, option_or}
-use Rattle.hy_record.specs.declared.action.Reply.{Reply}
 use Rattle.hy_record.specs.Stamp.{Timestamp, stamp_lt}
 use Rattle.hy_meta.specs.Service.{stamp_of_record}
 use Rattle.hy_protocol.specs.Read.{Version, version_of}

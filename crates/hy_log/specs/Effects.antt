@@ -1,12 +1,11 @@
 -- What a deed leads to.
-use Rattle.std.specs.Prelude.{◌≡◌, ℕ, ◌+◌, List, [], ◌∷◌, map, length, Option, Some, None}
+use Rattle.std.specs.Prelude.{◌≡◌, ℕ, List, [], ◌∷◌, map, Option, Some, None}
 use Rattle.hy_record.specs.declared.action.Reply.{Reply}
 use Rattle.hy_record.specs.declared.message.MetaAsk.{MetaAsk}
 use Rattle.hy_record.specs.declared.message.MetaAsk.TheVariants as asks
-use Rattle.hy_record.specs.declared.turn.Cue.{Cue}
 use Rattle.hy_record.specs.declared.turn.Cue.TheVariants as cues
 use Rattle.hy_record.specs.Record.{RecordValue}
-use Rattle.hy_record.specs.Stamp.{Timestamp, stamp_lt}
+use Rattle.hy_record.specs.Stamp.{stamp_lt}
 use Rattle.hy_meta.specs.Service.{stamp_of_record, record_stamp}
 use Rattle.hy_protocol.specs.Inputs.{has_of}
 use Rattle.hy_trace.specs.Deeds.{Params, Deed, Joined, Began, Handed, Served, Granted, Stopped, Nothing, served, inputs_of, start_of, reply_after}

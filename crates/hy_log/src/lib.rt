@@ -9,6 +9,8 @@ mod history;
 mod log;
 mod notes;
 mod orders;
+mod place;
+mod places;
 mod post;
 
 pub use course::{Course, Returned};

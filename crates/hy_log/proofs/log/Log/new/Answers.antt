@@ -1,4 +1,4 @@
-use Rattle.std.proofs.Common.{◌≡◌, [], refl, sym, ap, ◌∙◌}
+use Rattle.std.proofs.Common.{refl, sym, ap, ◌∙◌}
 use Rattle.hy_log.specs.Courses.{course_at}
 use Rattle.hy_log.specs.Log.{posted_of, started_of}
 use Rattle.hy_log.proofs.Coursing.{course-start}
