@@ -1,0 +1,5 @@
+pub mod Sorting
+mod Moments
+mod Tellings
+mod Raising
+mod Marking
