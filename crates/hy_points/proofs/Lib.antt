@@ -3,3 +3,6 @@ mod Moments
 mod Tellings
 mod Raising
 mod Marking
+mod Places
+mod Heights
+pub mod InOrder
