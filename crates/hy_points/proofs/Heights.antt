@@ -66,7 +66,7 @@ module _ (own : ℕ → Bool) where
       by_stamp (Some s) = (higher s (height_of own log)).0
 
   -- each applied writing is at most the greatest
-  above-all : (log : List Point) (place : ℕ) (stamp : Timestamp) → IsApplied own log place stamp → Le stamp (height_of own log)
+  pub above-all : (log : List Point) (place : ℕ) (stamp : Timestamp) → IsApplied own log place stamp → Le stamp (height_of own log)
   above-all [] place stamp applied = absurd (none-some (Set applied.op stamp true) applied.there)
   above-all (point ∷ log) zero stamp applied =
       let same : point ≡ Set applied.op stamp true = same_Some point (Set applied.op stamp true) applied.there in
@@ -76,7 +76,7 @@ module _ (own : ℕ → Bool) where
       le-trans stamp (height_of own log) (height_of own (point ∷ log)) (above-all log place stamp (record { op = applied.op; there = applied.there; is_own = applied.is_own })) (rest-le point log)
 
   -- the greatest is that of no record, or of an applied writing
-  from-one : (log : List Point) → (height_of own log ≡ no_stamp) ⊎ ((place : ℕ) × IsApplied own log place (height_of own log))
+  pub from-one : (log : List Point) → (height_of own log ≡ no_stamp) ⊎ ((place : ℕ) × IsApplied own log place (height_of own log))
   from-one [] = inl refl
   from-one (point ∷ log) = by_point point refl (from-one log)
     where

@@ -6,3 +6,5 @@ mod Marking
 mod Places
 mod Heights
 pub mod InOrder
+mod Courses
+mod Placing
