@@ -71,7 +71,7 @@ module _ (value : List ℕ) (k : ℕ) (bytes : AreElements IsElement value) (sma
       (length-range_with_len 0 k ∙ sym (length-map-range_with_len byte 0 k)) (range-different 0 k)
 
   -- its value at the number of a part is the part's byte
-  part_byte : (number : ℕ) → number < k → value_at gf (place_polynomial value k place) number ≡ slice_index value (number * fragment_size (length value) k + place)
+  pub part_byte : (number : ℕ) → number < k → value_at gf (place_polynomial value k place) number ≡ slice_index value (number * fragment_size (length value) k + place)
   unfolding part_bytes
   part_byte number within =
       let size = fragment_size (length value) k in

@@ -9,3 +9,5 @@ pub mod Ranges
 pub mod Refusals
 pub mod Rows
 pub mod Sums
+pub mod Points
+pub mod FirstParts

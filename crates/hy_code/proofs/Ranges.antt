@@ -1,5 +1,5 @@
 -- Lists made from a function of the index.
-use Rattle.std.proofs.Common.{◌≡◌, ℕ, zero, suc, ◌+◌, ◌*◌, ◌<◌, ◌≤◌, List, [], ◌∷◌, ◌++◌, map, refl, sym, ap, ◌∙◌, arith}
+use Rattle.std.proofs.Common.{◌≡◌, ℕ, zero, suc, ◌+◌, ◌-◌, ◌*◌, ◌<◌, ◌≤◌, List, [], ◌∷◌, ◌++◌, map, refl, sym, ap, ◌∙◌, arith}
 use Rattle.std.proofs.lemmas.List.{append-nil, map-id}
 use Rattle.std.proofs.lemmas.List.Concat.{flat_map-append}
 use Rattle.std.proofs.lemmas.List.FromFn.{map-range_with_len_more}
@@ -9,6 +9,15 @@ use Rattle.std.specs.List.{flat_map, range_with_len}
 pub pushed : {X : Type 0} (f : ℕ → X) (n : ℕ) (xs ys : List X) (y : X) → xs ≡ map f (range_with_len 0 n) → ys ≡ xs ++ y ∷ [] → y ≡ f n → ys ≡ map f (range_with_len 0 (n + 1))
 pushed f n xs ys y so_far push e =
     push ∙ ap (λ z. z ++ y ∷ []) so_far ∙ ap (λ z. map f (range_with_len 0 n) ++ z ∷ []) e ∙ sym (map-range_with_len_more f 0 n n (omega arith))
+
+-- one more element of a range from a place on
+pub pushed_from : {X : Type 0} (f : ℕ → X) (a b : ℕ) (xs ys : List X) (y : X) → a ≤ b → xs ≡ map f (range_with_len a (b - a)) → ys ≡ xs ++ y ∷ [] → y ≡ f b → ys ≡ map f (range_with_len a (b + 1 - a))
+pushed_from f a b xs ys y low so_far push e =
+    push
+    ∙ ap (λ z. z ++ y ∷ []) so_far
+    ∙ ap (λ z. map f (range_with_len a (b - a)) ++ z ∷ []) e
+    ∙ sym (map-range_with_len_more f a (b - a) b (omega arith))
+    ∙ ap (λ n. map f (range_with_len a n)) (omega arith)
 
 -- functions that agree on a range
 pub map-same : {X : Type 0} (f g : ℕ → X) (a n : ℕ) → ((j : ℕ) → a ≤ j → j < a + n → f j ≡ g j) → map f (range_with_len a n) ≡ map g (range_with_len a n)
@@ -30,7 +39,7 @@ map-shifted f c a (suc n) =
     ap (λ z. f (c + a) ∷ z) (map-shifted f c (a + 1) n ∙ ap (λ b. map f (range_with_len b n)) (omega arith))
 
 -- a range in two pieces
-map-range_with_len-add : {X : Type 0} (f : ℕ → X) (a m n : ℕ) → map f (range_with_len a (m + n)) ≡ map f (range_with_len a m) ++ map f (range_with_len (a + m) n)
+pub map-range_with_len-add : {X : Type 0} (f : ℕ → X) (a m n : ℕ) → map f (range_with_len a (m + n)) ≡ map f (range_with_len a m) ++ map f (range_with_len (a + m) n)
 map-range_with_len-add f a zero n = ap (λ z. map f (range_with_len a z)) (omega arith) ∙ ap (λ z. map f (range_with_len z n)) (omega arith)
 map-range_with_len-add f a (suc m) n =
     ap (λ z. map f (range_with_len a z)) (suc_add m n)

@@ -2,25 +2,24 @@
 use Rattle.std.proofs.Common.{◌≡◌, ℕ, zero, suc, ◌+◌, ◌<◌, List, [], ◌∷◌, ◌++◌, length, get_or, take, drop, replicate, map, eqb, refl, sym, ap, ◌∙◌, arith, subst}
 use Rattle.std.specs.List.{fold, range_with_len}
 use Rattle.std.specs.Int.Bits.{bit_xor, xor_assoc, xor_zero_l, xor_zero_r}
+use Rattle.std.proofs.Math.ListN.{get_or-map}
 use Rattle.std.proofs.lemmas.Grind.{same_number_lists}
 use Rattle.std.proofs.lemmas.List.{get_or-replicate, length-replicate, take_more, take_all, drop_all, append-nil}
 use Rattle.std.proofs.lemmas.List.Sums.{fold_more}
 use Rattle.std.proofs.lemmas.List.FromFn.{get_or-map-range_with_len, length-map-range_with_len}
 use Rattle.hy_gf.specs.Gf.{gf, gf_sum, gf_product, IsElement}
 use Rattle.hy_gf.specs.Row.{row_sum}
+use Rattle.hy_gf.specs.RowLaws.{length-row_sum, get_or-row_sum}
 use Rattle.hy_code.proofs.Bytes.{value_at-weights}
 use Rattle.hy_code.proofs.Refusals.{AreSized}
 use Rattle.hy_code.specs.Fragments.{clouds, column, row_at}
+use Rattle.hy_code.specs.Points.{AreInRange}
 use Rattle.hy_code.specs.Polynomial.{AreElements, AreDifferent, value_at, polynomial_through}
 use Rattle.hy_code.specs.Weights.{weight}
 use Rattle.hy_code.proofs.Interpolation.{weighted_sum}
 use Rattle.hy_code.specs.declared.pick.Pick.{Pick}
 
 -- ---- clouds and bytes in range
-
-abbrev pub AreInRange : List Pick → Type 0
-AreInRange [] = Unit {0}
-AreInRange (pick ∷ picks) = (pick.cloud < 256) × ((place : ℕ) → get_or pick.bytes place 0 < 256) × AreInRange picks
 
 in_range-push : (picks : List Pick) (pick : Pick) → AreInRange picks → pick.cloud < 256 → ((place : ℕ) → get_or pick.bytes place 0 < 256) → AreInRange (picks ++ pick ∷ [])
 in_range-push [] pick all cloud bytes = (cloud, bytes, tt)
@@ -31,31 +30,19 @@ in_range-more picks i pick within here all cloud bytes =
     let P : List Pick → Type 0 = AreInRange in
     subst P (ap (λ p. take i picks ++ p ∷ []) here ∙ sym (take_more picks i pick within)) (in_range-push (take i picks) pick all cloud bytes)
 
-clouds-elements : (picks : List Pick) → AreInRange picks → AreElements IsElement (clouds picks)
+pub clouds-elements : (picks : List Pick) → AreInRange picks → AreElements IsElement (clouds picks)
 clouds-elements [] all = tt
 clouds-elements (pick ∷ picks) all = (all.0, clouds-elements picks all.2)
 
-column-elements : (picks : List Pick) (place : ℕ) → AreInRange picks → AreElements IsElement (column picks place)
+pub column-elements : (picks : List Pick) (place : ℕ) → AreInRange picks → AreElements IsElement (column picks place)
 column-elements [] place all = tt
 column-elements (pick ∷ picks) place all = (all.1 place, column-elements picks place all.2)
 
-length-clouds : (picks : List Pick) (place : ℕ) → length (clouds picks) ≡ length (column picks place)
+pub length-clouds : (picks : List Pick) (place : ℕ) → length (clouds picks) ≡ length (column picks place)
 length-clouds [] place = refl
 length-clouds (pick ∷ picks) place = ap suc (length-clouds picks place)
 
 -- ---- the sum of rows
-
-length-row_sum : (factor : ℕ) (row out : List ℕ) → length (row_sum factor row out) ≡ length out
-length-row_sum factor [] out = refl
-length-row_sum factor (x ∷ row) [] = refl
-length-row_sum factor (x ∷ row) (y ∷ out) = ap suc (length-row_sum factor row out)
-
-get_or-row_sum : (factor place : ℕ) (row out : List ℕ) → place < length out → length row ≡ length out → get_or (row_sum factor row out) place 0 ≡ gf_sum (get_or out place 0) (gf_product factor (get_or row place 0))
-get_or-row_sum factor place [] [] within e = absurd (omega arith)
-get_or-row_sum factor place [] (y ∷ out) within e = absurd (omega arith)
-get_or-row_sum factor place (x ∷ row) [] within e = absurd (omega arith)
-get_or-row_sum factor zero (x ∷ row) (y ∷ out) within e = refl
-get_or-row_sum factor (suc place) (x ∷ row) (y ∷ out) within e = get_or-row_sum factor place row out (omega arith) (omega arith)
 
 -- the rows of picks, each times the factor of its cloud, added to a row
 abbrev added : (ℕ → ℕ) → List ℕ → List Pick → List ℕ
@@ -106,18 +93,27 @@ rows_sum-all size picks target small sized all different =
         ∙ xor_zero_l sum
         ∙ sym (value_at-weights (clouds picks) (column picks place) target (clouds-elements picks all) (column-elements picks place all) small (length-clouds picks place) different)
 
--- one more row, as it is written back
-pub rows_sum-more : (size : ℕ) (picks : List Pick) (target i : ℕ) (pick : Pick) (now out : List ℕ) (n factor : ℕ) → i < length picks → pick ≡ get_or picks i pick → now ≡ rows_sum size picks target (take i picks) → n ≡ length now → factor ≡ weight gf eqb (clouds picks) pick.cloud target → out ≡ row_sum factor pick.bytes now → take n (out ++ drop (length out) now) ≡ rows_sum size picks target (take (i + 1) picks)
-rows_sum-more size picks target i pick now out n factor within here so_far whole factor_is row =
+abbrev row_of : Pick → List ℕ
+row_of pick = pick.bytes
+
+abbrev cloud_of : Pick → ℕ
+cloud_of pick = pick.cloud
+
+-- what no pick has, where a list of picks is read
+abbrev pub nothing : Pick
+nothing = record { cloud = 0; bytes = [] }
+
+-- one more row
+pub rows_sum-next : (size : ℕ) (picks : List Pick) (target i factor : ℕ) (row out : List ℕ) → i < length picks → row ≡ get_or (map (λ pick. pick.bytes) picks) i [] → factor ≡ weight gf eqb (clouds picks) (get_or (clouds picks) i 0) target → out ≡ rows_sum size picks target (take i picks) → row_sum factor row out ≡ rows_sum size picks target (take (i + 1) picks)
+rows_sum-next size picks target i factor row out within row_is factor_is so_far =
     let step : List ℕ → Pick → List ℕ = λ row pick. row_sum (weight gf eqb (clouds picks) pick.cloud target) pick.bytes row in
-    let same : length out ≡ length now = ap length row ∙ length-row_sum factor pick.bytes now in
-    written n out now (whole ∙ sym same) same
-    ∙ row
-    ∙ ap (λ f. row_sum f pick.bytes now) factor_is
-    ∙ ap (λ r. step r pick) so_far
-    ∙ ap (step (rows_sum size picks target (take i picks))) here
-    ∙ sym (fold_more step (replicate size 0) picks i pick within)
-  where
-    written : (n : ℕ) (xs ys : List ℕ) → n ≡ length xs → length xs ≡ length ys → take n (xs ++ drop (length xs) ys) ≡ xs
-    written n xs ys e same =
-        ap (λ z. take n (xs ++ z)) (drop_all (length xs) ys (omega arith)) ∙ ap (take n) (append-nil xs) ∙ take_all n xs (omega arith)
+    let pick = get_or picks i nothing in
+    ap (row_sum factor row) so_far
+    ∙ ap (λ f. row_sum f row (rows_sum size picks target (take i picks))) (factor_is ∙ ap (λ cloud. weight gf eqb (clouds picks) cloud target) (get_or-map cloud_of picks i nothing))
+    ∙ ap (λ r. row_sum (weight gf eqb (clouds picks) pick.cloud target) r (rows_sum size picks target (take i picks))) (row_is ∙ get_or-map row_of picks i nothing)
+    ∙ sym (fold_more step (replicate size 0) picks i nothing within)
+
+-- what a vector of n bytes holds once its slice was written
+pub written : (n : ℕ) (xs ys : List ℕ) → n ≡ length xs → length xs ≡ length ys → take n (xs ++ drop (length xs) ys) ≡ xs
+written n xs ys e same =
+    ap (λ z. take n (xs ++ z)) (drop_all (length xs) ys (omega arith)) ∙ ap (take n) (append-nil xs) ∙ take_all n xs (omega arith)

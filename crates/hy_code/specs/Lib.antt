@@ -1,4 +1,5 @@
 pub mod Fragments
+pub mod Points
 pub mod Polynomial
 pub mod Refusal
 pub mod Weights

@@ -1,11 +1,14 @@
 //! The fragments of a value.
 
-ghost use Rattle.std.specs.Prelude.{◌≡◌, ◌<◌, ◌≤◌, ℕ, List, [], IfOk, length, map, slice_index_or};
+ghost use Rattle.std.specs.Prelude.{◌≡◌, ◌++◌, ◌-◌, ◌<◌, ◌≤◌, ℕ, List, [], IfOk, length, map, slice_index_or, All};
 ghost use Rattle.std.specs.List.{range_with_len};
-ghost use Rattle.hy_code.specs.Fragments.{fragment_of};
+ghost use Rattle.hy_code.specs.Fragments.{clouds, fragment_of, parts_of};
+ghost use Rattle.hy_code.specs.Polynomial.{AreDifferent};
+ghost use Rattle.hy_base.specs.Shape.{fragment_size as fragment_size_of};
 
 use crate::parts::parts;
-use crate::row::row;
+use crate::pick::Pick;
+use crate::polynomials::Polynomials;
 use hy_base::{Blob, MAX_N, MAX_VALUE, NoMemory, fragment_size};
 use std::alloc::Global;
 use std::marker::Model;
@@ -13,13 +16,14 @@ use std::marker::Model;
 /// One fragment for each cloud, by the clouds' numbers from 0 on.
 #[derive(Debug, Drop)]
 pub struct Fragments {
-    rows: Vec<Blob>,
+    parts: Vec<Pick>,
+    others: Vec<Blob>,
 }
 
 impl Model for Fragments {
     ghost Value = { List (List ℕ) };
 
-    ghost view = { λ fragments. fragments.rows.items };
+    ghost view = { λ fragments. map (λ pick. pick.bytes) fragments.parts.items ++ fragments.others.items };
 }
 
 impl Fragments {
@@ -28,7 +32,12 @@ impl Fragments {
         requires { i < length self.now }
         ensures { result.now ≡ slice_index_or self.now i [] }
     {
-        self.rows[i as usize].bytes()
+        let place = i as usize;
+        if place < self.parts.len() {
+            self.parts[place].bytes.bytes()
+        } else {
+            self.others[place - self.parts.len()].bytes()
+        }
     }
 }
 
@@ -41,11 +50,26 @@ pub fn split(alloc: Global, value: &[u8], k: u8, n: u8) -> Result<Fragments, NoM
     ensures each { IfOk result (λ fragments. fragments ≡ map (fragment_of value.now k) (range_with_len 0 n)) }
     ensures count { IfOk result (λ fragments. length fragments ≡ n) }
 {
-    let size = fragment_size(value.len() as u32, k) as usize;
     let parts = parts(alloc, value, k)?;
-    let mut rows = Vec::with_capacity(alloc, n as usize)?;
-    for cloud in 0..n {
-        rows.push(Blob::of(row(alloc, size, &parts, cloud)?))?;
+    let others = others(alloc, value, &parts, k, n)?;
+    Ok(Fragments { parts, others })
+}
+
+/// The fragments for the clouds from k on.
+fn others(alloc: Global, value: &[u8], parts: &[Pick], k: u8, n: u8) -> Result<Vec<Blob>, NoMemory>
+    requires one_part { 1 ≤ k }
+    requires parts_fit { k ≤ n }
+    requires size_fits { length value.now ≤ MAX_VALUE }
+    requires parts { parts.now ≡ parts_of value.now k }
+    requires sizes { All (λ pick. length pick.bytes ≡ fragment_size_of (length value.now) k) parts.now }
+    requires different { AreDifferent (clouds parts.now) }
+    ensures { IfOk result (λ others. others.items ≡ map (fragment_of value.now k) (range_with_len k (n - k))) }
+{
+    let size = fragment_size(value.len() as u32, k) as usize;
+    let polynomials = Polynomials::through(alloc, parts)?;
+    let mut others = Vec::with_capacity(alloc, (n - k) as usize)?;
+    for cloud in k..n {
+        others.push(Blob::of(polynomials.row(alloc, size, cloud)?))?;
     }
-    Ok(Fragments { rows })
+    Ok(others)
 }

@@ -6,8 +6,8 @@ mod fragments;
 mod laws;
 mod parts;
 mod pick;
+mod polynomials;
 mod rebuilding;
-mod row;
 
 pub use fault::RebuildFault;
 pub use fragments::{Fragments, split};

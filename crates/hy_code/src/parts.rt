@@ -1,6 +1,6 @@
 //! The parts that a value is cut into.
 
-ghost use Rattle.std.specs.Prelude.{◌≡◌, ◌<◌, ◌≤◌, IfOk, length, slice_index};
+ghost use Rattle.std.specs.Prelude.{◌≡◌, ◌<◌, ◌≤◌, IfOk, length, take, drop};
 ghost use Rattle.hy_code.specs.Fragments.{part_of, parts_of};
 
 use crate::pick::Pick;
@@ -29,17 +29,25 @@ fn part(alloc: Global, value: &[u8], size: usize, number: u8) -> Result<Pick, No
 {
     let start = number as usize * size;
     let mut bytes = Vec::with_capacity(alloc, size)?;
-    for place in 0..size {
-        bytes.push(byte_or_zero(value, start + place))?;
-    }
+    bytes.extend_from_slice(cut(value, start, size))?;
+    bytes.resize(size, 0)?;
     Ok(Pick {
         cloud: number,
         bytes: Blob::of(bytes),
     })
 }
 
-fn byte_or_zero(value: &[u8], place: usize) -> u8
-    ensures { result ≡ slice_index value.now place }
+/// As many of `size` bytes from `start` on as there are.
+fn cut(value: &[u8], start: usize, size: usize) -> &[u8]
+    ensures { result.now ≡ take size (drop start value.now) }
 {
-    value.get(place).copied().unwrap_or(0)
+    if start >= value.len() {
+        return &[];
+    }
+    let rest = &value[start..];
+    if size < rest.len() {
+        &rest[..size]
+    } else {
+        rest
+    }
 }

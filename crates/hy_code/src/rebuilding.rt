@@ -1,16 +1,16 @@
 //! The value that picked fragments rebuild.
 
-ghost use Rattle.std.specs.Prelude.{◌≡◌, ◌≤◌, ◌==◌, ℕ, List, [], length, take, All, IfSome, IfOk, IfErr, MatchOption};
+ghost use Rattle.std.specs.Prelude.{◌≡◌, ◌++◌, ◌≤◌, ◌==◌, ℕ, List, [], OnOk, length, take, All, IfSome, IfOk, IfErr, MatchOption};
 ghost use Rattle.std.specs.List.{list_any};
 ghost use Rattle.hy_base.specs.Shape.{fragment_size as fragment_size_of};
 ghost use Rattle.hy_gf.specs.Gf.{IsElement};
-ghost use Rattle.hy_code.specs.Fragments.{AreFragments, clouds, rebuilt_value};
+ghost use Rattle.hy_code.specs.Fragments.{AreFragments, clouds, rebuilt_value, row_at};
 ghost use Rattle.hy_code.specs.Polynomial.{AreDifferent, AreElements};
 ghost use Rattle.hy_code.specs.Refusal.{refusal, wrong_length as wrong_length_of, repeated_cloud as repeated_cloud_of};
 
 use crate::fault::RebuildFault;
 use crate::pick::Pick;
-use crate::row::row;
+use crate::polynomials::Polynomials;
 use hy_base::{Blob, MAX_K, MAX_VALUE, NoMemory, fragment_size};
 use std::alloc::Global;
 
@@ -77,11 +77,35 @@ fn parts_joined(alloc: Global, size: u32, k: u8, picks: &[Pick]) -> Result<Vec<u
     ensures { IfOk result (λ value. value.items ≡ rebuilt_value size k picks.now) }
 {
     let fragment_size = fragment_size(size, k) as usize;
-    let mut value = Vec::new(alloc);
+    let polynomials = Polynomials::through(alloc, picks)?;
+    let mut value = Vec::with_capacity(alloc, k as usize * fragment_size)?;
     for part in 0..k {
-        let bytes = row(alloc, fragment_size, picks, part)?;
-        value.extend_from_slice(&bytes)?;
+        append_part(alloc, &polynomials, fragment_size, part, &mut value)?;
     }
     value.truncate(size as usize);
     Ok(value)
+}
+
+/// Appends the bytes of a part: those that were picked, or those that lie on the polynomials.
+fn append_part(
+    alloc: Global,
+    polynomials: &Polynomials,
+    size: usize,
+    part: u8,
+    value: &mut Vec<u8>,
+) -> Result<(), NoMemory>
+    requires sizes { All (λ pick. length pick.bytes ≡ size) polynomials.now }
+    ensures { OnOk result (value.new.items ≡ value.old.items ++ row_at size polynomials.now part) }
+{
+    match polynomials.held(size, part) {
+        Some(bytes) => {
+            value.extend_from_slice(bytes)?;
+            Ok(())
+        }
+        None => {
+            let bytes = polynomials.row(alloc, size, part)?;
+            value.extend_from_slice(&bytes)?;
+            Ok(())
+        }
+    }
 }

@@ -1,2 +1,5 @@
 pub mod Doubling
 pub mod RowLemmas
+pub mod Halves
+pub mod LaneLemmas
+pub mod Added

@@ -8,7 +8,7 @@ use crate::field::Field;
 use std::marker::Model;
 
 /// The low byte of x^8 + x^4 + x^3 + x^2 + 1, the polynomial that products are reduced by.
-const REDUCTION: u8 = 0x1D;
+pub(crate) const REDUCTION: u8 = 0x1D;
 
 /// An element: the polynomial over bits whose coefficient of x^i is bit i of a byte.
 #[derive(Clone, Copy, Debug, PartialEq, Eq)]
@@ -97,7 +97,7 @@ impl Gf {
 }
 
 /// The product of x and the byte's polynomial.
-fn doubled(byte: u8) -> u8
+pub(crate) fn doubled(byte: u8) -> u8
     ensures { result ≡ gf_product 2 byte }
 {
     if byte < 128 {

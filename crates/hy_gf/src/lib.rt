@@ -3,11 +3,16 @@
 
 mod field;
 mod gf;
+mod lanes;
+mod products;
 mod row;
+mod tables;
+mod terms;
 
 pub use field::Field;
 pub use gf::Gf;
-pub use row::mul_add;
+pub use row::{Product, mul_add, mul_add_by_doublings, mul_add_four};
+pub use tables::Tables;
 
 #[cfg(test)]
 mod tests;

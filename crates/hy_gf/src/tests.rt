@@ -1,8 +1,9 @@
 //! Products and rows against values from outside.
 
-ghost use Rattle.std.specs.Prelude.{◌≢◌};
+ghost use Rattle.std.specs.Prelude.{◌≡◌, ◌≢◌, ◌≤◌, length};
 
 use super::*;
+use std::process::Abort;
 
 // The powers of 2, from x^0 to x^254: a script in Python multiplied polynomials as lists of coefficients,
 // divided by the modulus, and compared all products of two powers with the power of the sum of exponents.
@@ -52,6 +53,92 @@ fn adds_a_row(rt: HostRuntime) {
     mul_add(&[0, 1, 128], Gf::of(2), &mut out);
     assert_eq!(rt; out, [7, 5, 26]);
     mul_add(&[], Gf::of(2), &mut []);
+}
+
+#[test]
+fn every_product_by_tables(rt: HostRuntime) {
+    for factor in 0..=255u8 {
+        let tables = Tables::of(Gf::of(factor));
+        for byte in 0..=255u8 {
+            assert_eq!(rt;
+                tables.times(byte),
+                Gf::of(factor).times(Gf::of(byte)).byte()
+            );
+        }
+    }
+}
+
+// the row that kernels are compared with
+fn add_plainly(row: &[u8], factor: Gf, out: &mut [u8])
+    requires { length row.now ≡ length out.old }
+    ensures { length out.new ≡ length out.old }
+{
+    for (place, byte) in row.iter().enumerate() {
+        out[place] ^= factor.times(Gf::of(*byte)).byte();
+    }
+}
+
+fn some_bytes() -> [u8; 1000] {
+    let mut bytes = [0u8; 1000];
+    for place in 0..1000usize {
+        bytes[place] = (place * 37 % 256) as u8;
+    }
+    bytes
+}
+
+// no byte past the row changes
+fn kernels_agree(rt: &impl Abort, row: &[u8], factor: u8)
+    requires { length row.now ≤ 1000 }
+{
+    let mut plain = [0xA5u8; 1000];
+    let mut looked_up = plain;
+    let mut by_doublings = plain;
+    add_plainly(row, Gf::of(factor), &mut plain[..row.len()]);
+    mul_add(row, Gf::of(factor), &mut looked_up[..row.len()]);
+    mul_add_by_doublings(row, Gf::of(factor), &mut by_doublings[..row.len()]);
+    assert!(rt; looked_up == plain, "{factor} times {} bytes", row.len());
+    assert!(rt; by_doublings == plain, "{factor} times {} bytes", row.len());
+}
+
+fn four_agree(rt: &impl Abort, row: &[u8])
+    requires { length row.now ≤ 1000 }
+{
+    let mut plain = [0xA5u8; 1000];
+    let mut at_once = plain;
+    for factor in [3u8, 1, 0, 200] {
+        add_plainly(row, Gf::of(factor), &mut plain[..row.len()]);
+    }
+    let times = |factor| Product {
+        row,
+        factor: Gf::of(factor),
+    };
+    mul_add_four(
+        &times(3),
+        &times(1),
+        &times(0),
+        &times(200),
+        &mut at_once[..row.len()],
+    );
+    assert!(rt; at_once == plain, "{} bytes", row.len());
+}
+
+#[test]
+fn rows_of_each_length(rt: HostRuntime) {
+    let bytes = some_bytes();
+    for length in [0usize, 1, 31, 32, 33, 63, 64, 65, 1000] {
+        for factor in [0u8, 1, 2, 142, 255] {
+            kernels_agree(&rt, &bytes[..length], factor);
+        }
+        four_agree(&rt, &bytes[..length]);
+    }
+}
+
+#[test]
+fn a_row_times_each_factor(rt: HostRuntime) {
+    let bytes = some_bytes();
+    for factor in 0..=255u8 {
+        kernels_agree(&rt, &bytes, factor);
+    }
 }
 
 // (a + 1) / a, by the calls of the trait alone

@@ -1,6 +1,5 @@
 -- The line of an event: what is read is the row of an event in range, and such a row is read again.
-use Rattle.std.proofs.Common.{◌≡◌, ℕ, ◌+◌, ◌-◌, ◌^◌, ◌<◌, ◌≤◌, ◌==◌, Bool, true, false, cond, IsTrue, List, [], ◌∷◌, ◌++◌, length, Result, Ok, Err, refl, sym, ap, subst, ◌∙◌, arith, inl, inr, append-nil}
-use Rattle.std.specs.Prelude.{codes}
+use Rattle.std.proofs.Common.{◌≡◌, ℕ, ◌-◌, ◌^◌, ◌<◌, ◌≤◌, Bool, true, false, cond, List, [], ◌∷◌, ◌++◌, Ok, Err, refl, sym, ap, subst, ◌∙◌, arith, inl, inr, append-nil}
 use Rattle.std.specs.Fmt.{decimal}
 use Rattle.std.specs.Int.{bit_at}
 use Rattle.std.specs.List.{list_all}
@@ -8,18 +7,16 @@ use Rattle.std.proofs.lemmas.Bool.{cases_lt, eqb-true}
 use Rattle.std.proofs.lemmas.Nat.Bits.{bit_at_above}
 use Rattle.hy_base.specs.Results.{◌>>=◌}
 use Rattle.hy_base.specs.Shape.{cloud_count}
-use Rattle.hy_base.specs.declared.fault.Cause.{Cause}
 use Rattle.hy_base.specs.declared.fault.Cause.TheVariants.{BadNumber}
 use Rattle.hy_base.specs.declared.limits.TheConstants.{MAX_CLOUDS, MAX_COUNT, MAX_F, MAX_K, MAX_SESSIONS}
 use Rattle.hy_base.proofs.Results.{bind_ok, ok_is}
-use Rattle.hy_record.specs.Key.{is_key}
 use Rattle.hy_record.specs.Stamp.{Timestamp}
 use Rattle.hy_record.specs.declared.action.Action.{Action}
 use Rattle.hy_record.specs.declared.cloud.CloudSay.{CloudSay}
 use Rattle.hy_text.specs.Action.{action_words, IsTextAction, action_from}
 use Rattle.hy_text.specs.Line.{first_word, later_words, is_word, is_row}
 use Rattle.hy_text.specs.Slot.{number_of, key_word, end_of}
-use Rattle.hy_text.specs.Stamp.{stamp_words, IsStampWithin, stamp_from}
+use Rattle.hy_text.specs.Stamp.{stamp_words, stamp_from}
 use Rattle.hy_text.specs.Table.{value_named}
 use Rattle.hy_text.proofs.Groups.{number_first, key_first, stamp_takes, stamp_again, stamp_is_row, action_takes, action_again, action_is_row}
 use Rattle.hy_text.proofs.Keys.{key_again}
@@ -33,7 +30,7 @@ use Rattle.hy_sched.specs.declared.event_kind.EventKind.{EventKind}
 use Rattle.hy_sched.specs.declared.event_kind.EventKind.TheVariants.{Open, Do, Invoke, Give, Lie, Tick, Stop}
 use Rattle.hy_sched.specs.declared.params.Params.{Params}
 use Rattle.hy_sched.specs.Params.{is_liar, IsParams}
-use Rattle.hy_sched.specs.Ranges.{IsTextClient, IsTextNumber, IsTextLie, IsTextEvent}
+use Rattle.hy_sched.specs.Ranges.{IsTextClient, IsTextLie, IsTextEvent}
 use Rattle.hy_sched.specs.Reading.{event_kinds, liar_of, number_of_words, request_of_words, lie_of_words, event_by, event_of}
 use Rattle.hy_sched.specs.Say.{say_words, say_from}
 use Rattle.hy_sched.specs.Text.{event_word, event_kind, event_words, event_row}
@@ -90,6 +87,13 @@ liar_first params words cloud e =
     let one = allowed (is_liar params number.0) number.0 cloud number.2 in
     subst (λ (c : ℕ). (words ≡ decimal c ∷ later_words words) × (is_liar params c ≡ true)) one.1 (n.row, one.0)
 
+-- words in front of those that are left, joined
+named_object : (key : List ℕ) (words later left version answer : List (List ℕ)) → words ≡ key ∷ later → later ≡ version ++ left → left ≡ answer → words ≡ key ∷ (version ++ answer)
+named_object key words later left version answer e1 e2 e3 = cc
+
+after_four : (first a b c : List ℕ) (words second third fourth rest : List (List ℕ)) → words ≡ a ∷ second → second ≡ b ∷ third → third ≡ c ∷ fourth → fourth ≡ rest → first ∷ words ≡ first ∷ a ∷ b ∷ c ∷ rest
+after_four first a b c words second third fourth rest e1 e2 e3 e4 = cc
+
 lie_takes : (params : Params) (words : List (List ℕ)) (event : Event) → lie_of_words params words ≡ Ok event → SpellsEvent params (event_word Lie ∷ words) event
 unfolding lie_of_words
 lie_takes params words event e =
@@ -111,13 +115,12 @@ lie_takes params words event e =
     let t = stamp_takes 1 MAX_SESSIONS fifth stamp.0 (omega arith) stamp.1 in
     let s = say_takes stamp.0.1 say.0 say.1 in
     let last : stamp.0.1 ≡ say_words say.0.0 = s.row ∙ ap (λ (ws : List (List ℕ)). say_words say.0.0 ++ ws) (end_takes say.0.1 end.0 end.1) ∙ append-nil (say_words say.0.0) in
-    let object : fourth ≡ key.0 ∷ (stamp_words stamp.0.0 ++ say_words say.0.0) =
-    k.0 ∙ ap (λ (ws : List (List ℕ)). key.0 ∷ ws) (t.row ∙ ap (λ (ws : List (List ℕ)). stamp_words stamp.0.0 ++ ws) last) in
-    let row : words ≡ decimal cloud.0 ∷ decimal client.0 ∷ decimal op.0 ∷ key.0 ∷ (stamp_words stamp.0.0 ++ say_words say.0.0) =
-    l.0 ∙ ap (λ (ws : List (List ℕ)). decimal cloud.0 ∷ ws) (c.row ∙ ap (λ (ws : List (List ℕ)). decimal client.0 ∷ ws) (o.row ∙ ap (λ (ws : List (List ℕ)). decimal op.0 ∷ ws) object)) in
+    let object : fourth ≡ key.0 ∷ (stamp_words stamp.0.0 ++ say_words say.0.0) = named_object key.0 fourth fifth stamp.0.1 (stamp_words stamp.0.0) (say_words say.0.0) k.0 t.row last in
+    let row : event_word Lie ∷ words ≡ event_row (events.Lie cloud.0 client.0 op.0 key.0 stamp.0.0 say.0.0) =
+    after_four (event_word Lie) (decimal cloud.0) (decimal client.0) (decimal op.0) words second third fourth (key.0 ∷ (stamp_words stamp.0.0 ++ say_words say.0.0)) l.0 c.row o.row object in
     subst (SpellsEvent params (event_word Lie ∷ words)) (ok_is (events.Lie cloud.0 client.0 op.0 key.0 stamp.0.0 say.0.0) event end.2)
     (record {
-      row = ap (λ (ws : List (List ℕ)). event_word Lie ∷ ws) row;
+      row = row;
       fits = record {
         liar = l.1;
         addressee = (c.low_end, c.high_end);

@@ -1,20 +1,19 @@
 -- The first line: what is read is the row of parameters that a store can have, and such a row is read again.
-use Rattle.std.proofs.Common.{◌≡◌, ℕ, ◌+◌, ◌-◌, ◌^◌, ◌<◌, ◌≤◌, Bool, true, false, cond, ◌&&◌, List, [], ◌∷◌, length, Result, Ok, Err, refl, sym, ap, subst, ◌∙◌, arith}
+use Rattle.std.proofs.Common.{◌≡◌, ℕ, ◌+◌, ◌-◌, ◌^◌, ◌<◌, ◌≤◌, Bool, true, false, cond, ◌&&◌, List, [], ◌∷◌, length, Result, Ok, Err, refl, ap, subst, ◌∙◌, arith}
 use Rattle.std.specs.Prelude.{codes}
 use Rattle.std.specs.Fmt.{decimal}
-use Rattle.std.specs.List.{list_all}
 use Rattle.std.specs.Str.{bytes_eq}
 use Rattle.std.proofs.lemmas.Bool.{and_parts}
 use Rattle.std.proofs.lemmas.Slice.Eq.{bytes_eq-Decides}
 use Rattle.hy_base.specs.Results.{◌>>=◌}
-use Rattle.hy_base.specs.Shape.{IsShape, cloud_count}
+use Rattle.hy_base.specs.Shape.{cloud_count}
 use Rattle.hy_base.specs.declared.fault.Cause.{Cause}
-use Rattle.hy_base.specs.declared.fault.Cause.TheVariants.{NoHeader, BadParams}
+use Rattle.hy_base.specs.declared.fault.Cause.TheVariants.{NoHeader}
 use Rattle.hy_base.specs.declared.limits.TheConstants.{MAX_F, MAX_K}
 use Rattle.hy_base.proofs.Results.{bind_ok, ok_is}
 use Rattle.hy_record.specs.Clouds.{clouds_of}
 use Rattle.hy_text.specs.Clouds.{cloud_word, cloud_set_of}
-use Rattle.hy_text.specs.Line.{first_word, later_words, is_word, is_row}
+use Rattle.hy_text.specs.Line.{first_word, later_words, is_row}
 use Rattle.hy_text.specs.Slot.{keyword, number_of, end_of}
 use Rattle.hy_text.proofs.CloudWords.{clouds_take, clouds_again, is_word-clouds}
 use Rattle.hy_text.proofs.Groups.{number_first}
@@ -47,6 +46,9 @@ named_number_takes name low high words read some fits e =
     let row : words ≡ name ∷ decimal number.0 ∷ later_words second = keyword_first name words word.0 some word.1 ∙ ap (λ (ws : List (List ℕ)). name ∷ ws) n.row in
     subst (IsNamedNumber name low high words) (ok_is (number.0, later_words second) read number.2) (record { row = row; low_end = n.low_end; high_end = n.high_end })
 
+after_numbers : (first one second two : List ℕ) (words later left rest : List (List ℕ)) → words ≡ first ∷ one ∷ later → later ≡ second ∷ two ∷ left → left ≡ rest → words ≡ first ∷ one ∷ second ∷ two ∷ rest
+after_numbers first one second two words later left rest e1 e2 e3 = cc
+
 -- the words are those of parameters that a store can have
 record SpellsParams (words : List (List ℕ)) (params : Params) : Type 0 where
   row : words ≡ params_words params
@@ -71,7 +73,7 @@ params_take words params e =
     let rest : list ≡ set ∷ [] = words_from_first list set c.0 some ∙ ap (λ (ws : List (List ℕ)). set ∷ ws) (end_takes (later_words list) end.0 end.1) in
     let last : k.0.1 ≡ codes "liars" ∷ set ∷ [] = keyword_first (codes "liars") k.0.1 word.0 (omega arith) word.1 ∙ ap (λ (ws : List (List ℕ)). codes "liars" ∷ ws) rest in
     let row : words ≡ codes "f" ∷ decimal f.0.0 ∷ codes "k" ∷ decimal k.0.0 ∷ codes "liars" ∷ set ∷ [] =
-    a.row ∙ ap (λ (ws : List (List ℕ)). codes "f" ∷ decimal f.0.0 ∷ ws) (b.row ∙ ap (λ (ws : List (List ℕ)). codes "k" ∷ decimal k.0.0 ∷ ws) last) in
+    after_numbers (codes "f") (decimal f.0.0) (codes "k") (decimal k.0.0) words f.0.1 k.0.1 (codes "liars" ∷ set ∷ []) a.row b.row last in
     subst (SpellsParams words) (ok_is (record { f = f.0.0; k = k.0.0; liars = liars.0 }) params end.2)
     (record {
       row = row;

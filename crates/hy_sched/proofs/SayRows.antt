@@ -1,12 +1,12 @@
 -- The words of an answer of a Byzantine cloud: what is read is the row of the answer, in range, and such a row is read again.
-use Rattle.std.proofs.Common.{◌≡◌, ℕ, ◌<◌, true, List, [], ◌∷◌, ◌++◌, length, Ok, refl, sym, ap, subst, ◌∙◌, arith}
+use Rattle.std.proofs.Common.{◌≡◌, ℕ, ◌<◌, true, List, ◌∷◌, ◌++◌, length, Ok, refl, sym, ap, subst, arith}
 use Rattle.std.specs.List.{list_all}
 use Rattle.hy_base.proofs.Results.{bind_ok, ok_is}
 use Rattle.hy_base.specs.declared.limits.TheConstants.{MAX_TEXT_VALUE}
 use Rattle.hy_record.specs.declared.cloud.CloudSay.{CloudSay}
 use Rattle.hy_record.specs.declared.cloud.CloudSay.TheVariants as says
 use Rattle.hy_text.specs.Line.{first_word, later_words, is_word}
-use Rattle.hy_text.specs.Slot.{value_of, value_word}
+use Rattle.hy_text.specs.Slot.{value_of}
 use Rattle.hy_text.specs.Table.{value_named}
 use Rattle.hy_text.proofs.Groups.{Spells, value_first, named_first}
 use Rattle.hy_text.proofs.Printed.{is_word-value_word}

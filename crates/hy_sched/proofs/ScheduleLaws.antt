@@ -1,6 +1,6 @@
 -- The two laws of the text of a schedule: what is read is spelled so, and what is spelled so is read.
 use Rattle.std.proofs.Common.{◌≡◌, ℕ, ◌+◌, ◌<◌, ◌≤◌, Bool, true, false, cond, ◌&&◌, nat_le, List, [], ◌∷◌, ◌++◌, length, map, Result, Ok, Err, refl, sym, ap, subst, ◌∙◌, arith, append-nil}
-use Rattle.std.specs.Prelude.{codes, IfOk}
+use Rattle.std.specs.Prelude.{IfOk}
 use Rattle.std.specs.List.{AllByRecursion, list_all}
 use Rattle.std.proofs.lemmas.Bool.{and_from, leb-false, lt-leb}
 use Rattle.std.proofs.lemmas.List.Sums.{sum_by-cons}
@@ -14,9 +14,9 @@ use Rattle.hy_base.specs.declared.limits.TheConstants.{MAX_EVENTS, MAX_SESSIONS}
 use Rattle.hy_base.proofs.Results.{bind_ok, ok_is}
 use Rattle.hy_text.specs.Gives.{GivesText, at_line, next_number}
 use Rattle.hy_text.specs.Kind.{is_next_due, item_in, items_from, item_from}
-use Rattle.hy_text.specs.Line.{Line, text_of, lines_of, is_row}
+use Rattle.hy_text.specs.Line.{Line, lines_of, is_row}
 use Rattle.hy_text.specs.OpenLine.{OpenLine, Rest, opened}
-use Rattle.hy_text.proofs.ItemRows.{rows_in, all_ended, line_of_row, lines_written, lines_written-rows, text_of-rows, item_ok, IsRowOf, Takes, ReadsAgain, FitAlong, AreLinesOf, state_after, items_take, items_again}
+use Rattle.hy_text.proofs.ItemRows.{rows_in, all_ended, line_of_row, lines_written, lines_written-rows, text_of-rows, item_ok, IsRowOf, Takes, ReadsAgain, FitAlong, state_after, items_take, items_again}
 use Rattle.hy_text.proofs.Rows.{lines_of-text_of}
 use Rattle.hy_text.proofs.Slots.{at_line_ok}
 use Rattle.hy_sched.specs.declared.event.Event.{Event}
@@ -25,7 +25,7 @@ use Rattle.hy_sched.specs.declared.params.Params.{Params}
 use Rattle.hy_sched.specs.declared.schedule.Schedule.{Schedule}
 use Rattle.hy_sched.specs.Params.{IsParams}
 use Rattle.hy_sched.specs.Ranges.{is_join, joined_count, IsTextEvent, IsSchedule}
-use Rattle.hy_sched.specs.Reading.{header_of, header_line, Before, event_of, room_for, joined_with, event_at, event_lines, schedule_at, schedule_of}
+use Rattle.hy_sched.specs.Reading.{before_all, header_line, Before, event_of, room_for, joined_with, event_at, event_lines, schedule_at, schedule_of}
 use Rattle.hy_sched.specs.Text.{header_row, event_row, schedule_rows, schedule_text, IsScheduleText}
 use Rattle.hy_sched.proofs.EventRows.{event_takes, event_again, event_is_row}
 use Rattle.hy_sched.proofs.HeaderRows.{header_takes, header_again, header_is_row}
@@ -154,18 +154,14 @@ record AreScheduleLines (lines : List OpenLine) (schedule : Schedule) : Type 0 w
   ended : all_ended lines ≡ true
   fits : IsSchedule schedule
 
--- what stands before the first event
-abbrev at_start : Params → Before
-at_start params = record { params = params; count = 0; joined = 0 }
-
-events_take : (params : Params) (number : ℕ) (lines : List OpenLine) (read : List Event × Rest) → IsParams params → items_from event_lines (at_start params) number lines ≡ Ok read
-    → (rows_in lines ≡ map event_row read.0) × (all_ended lines ≡ true) × HasRoom (at_start params) read.0
+events_take : (params : Params) (number : ℕ) (lines : List OpenLine) (read : List Event × Rest) → IsParams params → items_from event_lines (before_all params) number lines ≡ Ok read
+    → (rows_in lines ≡ map event_row read.0) × (all_ended lines ≡ true) × HasRoom (before_all params) read.0
 events_take params number lines read fits e =
-    let all = items_take event_lines event_row FitsAfter HasParams event_line_takes (λ before event holds. holds) (at_start params) number lines read fits e in
-    let none = none_left (state_after event_lines (at_start params) read.0) read.1.lines all.other in (
+    let all = items_take event_lines event_row FitsAfter HasParams event_line_takes (λ before event holds. holds) (before_all params) number lines read fits e in
+    let none = none_left (state_after event_lines (before_all params) read.0) read.1.lines all.other in (
       all.rows ∙ ap (λ (left : List OpenLine). map event_row read.0 ++ rows_in left) none ∙ append-nil (map event_row read.0),
       all.ended (ap all_ended none),
-      has_room (at_start params) read.0 (omega arith) (omega arith) all.fits,
+      has_room (before_all params) read.0 (omega arith) (omega arith) all.fits,
     )
 
 schedule_lines_take : (number : ℕ) (lines : List OpenLine) (schedule : Schedule) → schedule_at (record { number = number; lines = lines }) ≡ Ok schedule → AreScheduleLines lines schedule
@@ -175,7 +171,7 @@ schedule_lines_take number (line ∷ lines) schedule e =
     let header = bind_ok (item_from NoHeader header_line tt number (line ∷ lines)) _ schedule e in
     let params : Params = header.0.0 in
     let rest : Rest = header.0.1 in
-    let list = bind_ok (items_from event_lines (at_start params) rest.number rest.lines) (λ list. Ok (record { params = params; events = list.0 })) schedule header.2 in
+    let list = bind_ok (items_from event_lines (before_all params) rest.number rest.lines) (λ list. Ok (record { params = params; events = list.0 })) schedule header.2 in
     let h = header_line_takes number line lines header.0 header.1 in
     let all = events_take params rest.number rest.lines list.0 h.fits list.1 in
     let rows : rows_in lines ≡ map event_row list.0.0 = ap rows_in h.left ∙ all.0 in
@@ -198,18 +194,18 @@ events_are_rows : (params : Params) (list : List Event) → IsParams params → 
 events_are_rows params [] fits are = refl
 events_are_rows params (event ∷ list) fits are = and_from (is_row (event_row event)) _ (event_is_row params event fits are.0) (events_are_rows params list fits are.1)
 
-events_again : (params : Params) (number : ℕ) (list : List Event) → IsParams params → HasRoom (at_start params) list
-    → (last : ℕ) × (items_from event_lines (at_start params) number (lines_written (map event_row list)) ≡ Ok (list, record { number = last; lines = [] }))
+events_again : (params : Params) (number : ℕ) (list : List Event) → IsParams params → HasRoom (before_all params) list
+    → (last : ℕ) × (items_from event_lines (before_all params) number (lines_written (map event_row list)) ≡ Ok (list, record { number = last; lines = [] }))
 events_again params number list fits room =
-    let all = items_again event_lines event_row FitsAfter event_line_again (at_start params) number list [] (fit_along (at_start params) list fits room) refl in
+    let all = items_again event_lines event_row FitsAfter event_line_again (before_all params) number list [] (fit_along (before_all params) list fits room) refl in
     let lines : lines_written (map event_row list) ≡ map (λ (event : Event). line_of_row (event_row event)) list ++ [] =
     ap lines_written (sym (append-nil (map event_row list))) ∙ lines_written-rows event_row list [] in
-    (all.0, ap (items_from event_lines (at_start params) number) lines ∙ all.1)
+    (all.0, ap (items_from event_lines (before_all params) number) lines ∙ all.1)
 
 schedule_lines_again : (schedule : Schedule) → IsSchedule schedule → schedule_at (record { number = 1; lines = lines_written (schedule_rows schedule) }) ≡ Ok schedule
 unfolding schedule_at
 schedule_lines_again schedule is =
-    let room : HasRoom (at_start schedule.params) schedule.events = record { range = is.events; few = omega (arith, is.few); joined = omega (arith, is.joined) } in
+    let room : HasRoom (before_all schedule.params) schedule.events = record { range = is.events; few = omega (arith, is.few); joined = omega (arith, is.joined) } in
     let all = events_again schedule.params (next_number 1) schedule.events is.params room in
     rw (header_again schedule.params is.params, all.1) refl
 

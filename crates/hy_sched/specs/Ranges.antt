@@ -37,7 +37,8 @@ abbrev pub IsTextNumber : ℕ → Type 0
 IsTextNumber number = (1 ≤ number) × (number ≤ MAX_COUNT)
 
 -- the answer is of a Byzantine cloud, and what it carries is in range
-pub record IsTextLie (params : Params) (cloud client op : ℕ) (key : List ℕ) (stamp : Timestamp) (say : CloudSay) : Type 0 where
+pub record IsTextLie (params : Params) (cloud client op : ℕ) (key : List ℕ) (stamp : Timestamp) (say : CloudSay)
+    : Type 0 where
   pub liar : is_liar params cloud ≡ true
   pub addressee : IsTextClient client
   pub number : IsTextNumber op

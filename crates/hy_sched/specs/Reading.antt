@@ -1,5 +1,5 @@
 -- Reading the text of a schedule: the schedule, or the first fault.
-use Rattle.std.specs.Prelude.{ℕ, ◌+◌, ◌-◌, Bool, true, ◌&&◌, nat_le, if◌then◌else◌, List, [], ◌∷◌, map, codes, Result, Ok, Err}
+use Rattle.std.specs.Prelude.{ℕ, ◌+◌, ◌-◌, true, ◌&&◌, nat_le, if◌then◌else◌, List, [], ◌∷◌, map, codes, Result, Ok, Err}
 use Rattle.std.specs.Str.{bytes_eq}
 use Rattle.hy_base.specs.declared.fault.Cause.{Cause}
 use Rattle.hy_base.specs.declared.fault.Cause.TheVariants.{NoHeader, BadParams, BadNumber, TooManyOpen, TooManyLines}
@@ -12,7 +12,7 @@ use Rattle.hy_text.specs.Action.{action_from}
 use Rattle.hy_text.specs.Clouds.{cloud_set_of}
 use Rattle.hy_text.specs.Kind.{Kind, items_from, item_from}
 use Rattle.hy_text.specs.Line.{lines_of, first_word, later_words}
-use Rattle.hy_text.specs.OpenLine.{OpenLine, Rest, opened}
+use Rattle.hy_text.specs.OpenLine.{Rest, opened}
 use Rattle.hy_text.specs.Slot.{keyword, number_of, key_word, end_of}
 use Rattle.hy_text.specs.Stamp.{stamp_from}
 use Rattle.hy_text.specs.Table.{value_named}
@@ -123,6 +123,10 @@ pub record Before : Type 0 where
   pub count : ℕ
   pub joined : ℕ
 
+-- what stands before the first event
+abbrev pub before_all : Params → Before
+before_all params = record { params = params; count = 0; joined = 0 }
+
 -- one client more joins only where there is room for it
 abbrev pub room_for : ℕ → Event → Result (Unit {0}) Cause
 room_for joined event = if is_join event && nat_le MAX_SESSIONS joined then Err TooManyOpen else Ok tt
@@ -152,7 +156,7 @@ event_lines = record {
 unfoldable pub schedule_at : Rest → Result Schedule TextFault
 schedule_at rest =
     item_from NoHeader header_line tt rest.number rest.lines >>= λ header.
-    items_from event_lines (record { params = header.0; count = 0; joined = 0 }) header.1.number header.1.lines >>= λ events.
+    items_from event_lines (before_all header.0) header.1.number header.1.lines >>= λ events.
     Ok (record { params = header.0; events = events.0 })
 
 -- the schedule that the text is, or the first fault of the text

@@ -18,7 +18,8 @@ use Rattle.hy_sched.specs.Say.{say_words}
 -- the words of the parameters
 abbrev pub params_words : Params → List (List ℕ)
 params_words params =
-    codes "f" ∷ decimal params.f ∷ codes "k" ∷ decimal params.k ∷ codes "liars" ∷ cloud_word (clouds_of params.liars) ∷ []
+    codes "f" ∷ decimal params.f ∷ codes "k" ∷ decimal params.k
+    ∷ codes "liars" ∷ cloud_word (clouds_of params.liars) ∷ []
 
 -- the first line
 abbrev pub header_row : Params → List (List ℕ)

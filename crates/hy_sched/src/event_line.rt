@@ -41,7 +41,8 @@ impl Model for EventLines {
 
     ghost Value = { Before };
 
-    ghost view = { λ lines. record { params = lines.params; count = lines.count; joined = lines.joined } };
+    ghost view = { λ lines.
+        record { params = lines.params; count = lines.count; joined = lines.joined } };
 
     ghost invariant = { λ lines. (lines.count ≤ MAX_EVENTS) × (lines.joined ≤ MAX_SESSIONS) };
 }
@@ -94,9 +95,10 @@ fn read_event_at(
     words: &mut Words,
 ) -> Result<Event, LineError>
     requires { joined ≤ MAX_SESSIONS }
-    ensures gives { Gives result
-        (event_at (record { params = params; count = count; joined = joined }) keyword.now words.old) }
-    ensures room { IfOk result (λ event. (count < MAX_EVENTS) × (joined_with joined event ≤ MAX_SESSIONS)) }
+    ensures gives { Gives result (event_at
+        (record { params = params; count = count; joined = joined }) keyword.now words.old) }
+    ensures room { IfOk result
+        (λ event. (count < MAX_EVENTS) × (joined_with joined event ≤ MAX_SESSIONS)) }
 {
     if count >= MAX_EVENTS {
         return Err(LineError::Bad(Cause::TooManyLines));

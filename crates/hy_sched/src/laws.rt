@@ -8,5 +8,6 @@ ghost use Rattle.hy_sched.specs.declared.schedule.Schedule.{Schedule};
 
 /// What is read of the text of a schedule within the limits is that schedule.
 pub fn schedules_are_read_back()
-    ensures { (schedule : Schedule) → IsSchedule schedule → schedule_of (schedule_text schedule) ≡ Ok schedule }
+    ensures { (schedule : Schedule) → IsSchedule schedule →
+        schedule_of (schedule_text schedule) ≡ Ok schedule }
 {}

@@ -18,3 +18,6 @@ pub use params::Params;
 pub use reading::read_schedule;
 pub use schedule::Schedule;
 pub use writing::write_schedule;
+
+#[cfg(test)]
+mod tests;

@@ -21,18 +21,20 @@ use std::alloc::Global;
 ///
 /// A fault names the first line that does not fit, counted from 1, and its cause: on the first line
 /// the first of `NoHeader` and `BadParams`; on the line of an event `TooManyLines` before the cause
-/// of the first word from the left that does not fit, and `TooManyOpen` after it; last on each line,
-/// `NoLineEnd`.
+/// of the first word from the left that does not fit, and `TooManyOpen` after it; last on each
+/// line, `NoLineEnd`.
 pub fn read_schedule(alloc: Global, text: &[u8]) -> Result<Schedule, TextError>
     // Which schedule, or which fault: the first of the text.
     ensures exact { GivesText result (schedule_of text.now) }
     // What is read is the text of a schedule within the limits.
-    ensures found { IfOk result (λ schedule. IsSchedule schedule × (text.now ≡ schedule_text schedule)) }
+    ensures found { IfOk result
+        (λ schedule. IsSchedule schedule × (text.now ≡ schedule_text schedule)) }
     // The text of a schedule within the limits is read, unless memory runs out.
     ensures only { (schedule : Schedule) → IsSchedule schedule → text.now ≡ schedule_text schedule →
         GivesText result (Ok schedule) }
     // The text of a schedule within the limits has no fault.
-    ensures refused { (fault : TextFault) → result ≡ Err (errors.Fault fault) → ¬ IsScheduleText text.now }
+    ensures refused { (fault : TextFault) → result ≡ Err (errors.Fault fault) →
+        ¬ IsScheduleText text.now }
 {
     read_text(alloc, text)
 }

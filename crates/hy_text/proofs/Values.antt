@@ -2,8 +2,9 @@
 use Rattle.std.proofs.Common.{◌≡◌, ℕ, zero, suc, ◌+◌, ◌-◌, ◌*◌, ◌/◌, ◌%◌, ◌<◌, ◌≤◌, ◌⊎◌, Bool, true, false, not, cond, ◌&&◌, eqb, leb, ltb, List, [], ◌∷◌, length, get_or, take, drop, Result, Ok, Err, refl, sym, ap, subst, ◌∙◌, arith, inl, inr}
 use Rattle.std.specs.List.{list_all}
 use Rattle.std.specs.Str.{bytes_eq}
-use Rattle.std.proofs.lemmas.List.{take_all, length-drop, get_or_past}
-use Rattle.std.proofs.lemmas.Bool.{cases_lt, eqb-true, eqb-false, leb-true, le-leb, lt-leb, eq-eqb, ne_eqb, not-true, both_ways}
+use Rattle.std.proofs.lemmas.List.{get_or_past}
+use Rattle.std.proofs.lemmas.List.Folds.{list_all_at}
+use Rattle.std.proofs.lemmas.Bool.{cases_Bool, cases_lt, eqb-true, eqb-false, leb-true, le-leb, lt-leb, eq-eqb, ne_eqb, not-true, both_ways}
 use Rattle.std.proofs.lemmas.Bool.Decides.{nat_tests}
 use Rattle.std.proofs.lemmas.Slice.Eq.{bytes_eq-Decides}
 use Rattle.hex.specs.Hex.{lower_digits, encode_with, encode_lower, IsBytes}
@@ -55,27 +56,25 @@ all_parts high low digits all =
     let two = and_both (is_lower_digit low) (list_all is_lower_digit digits) one.1 in
     (one.0, two.0, two.1)
 
--- the rest after the first elements, as a slice pattern binds it
-pub later_is : (xs : List ℕ) (n : ℕ) → take (length xs - n) (drop n xs) ≡ drop n xs
-later_is xs n = take_all (length xs - n) (drop n xs) (omega (arith, length-drop n xs))
+-- each of the digits is one
+pub digit_at : (digits : List ℕ) (i : ℕ) → list_all is_lower_digit digits ≡ true → i < length digits → is_lower_digit (get_or digits i 0) ≡ true
+digit_at digits i all within = elim (cases_Bool (is_lower_digit (get_or digits i 0))) [
+  | inl is ↦ is
+  | inr lacks ↦ absurd (both_ways _ (list_all_at is_lower_digit digits i 0 within lacks) all)
+]
 
--- the pair in front
-pub hex_bytes-front : (xs : List ℕ) → 2 ≤ length xs → hex_bytes xs ≡ (hex_value (get_or xs 0 0) * 16 + hex_value (get_or xs 1 0)) ∷ hex_bytes (drop 2 xs)
-hex_bytes-front [] long = absurd (omega arith)
-hex_bytes-front (x ∷ []) long = absurd (omega arith)
-hex_bytes-front (x ∷ y ∷ xs) long = hex_bytes-pair x y xs
-
-pub front_parts : (xs : List ℕ) → 2 ≤ length xs → list_all is_lower_digit xs ≡ true → (is_lower_digit (get_or xs 0 0) ≡ true) × (is_lower_digit (get_or xs 1 0) ≡ true) × (list_all is_lower_digit (drop 2 xs) ≡ true)
-front_parts [] long all = absurd (omega arith)
-front_parts (x ∷ []) long all = absurd (omega arith)
-front_parts (x ∷ y ∷ xs) long all = all_parts x y xs all
-
--- fewer than two digits are no byte
-pub hex_bytes-short : (xs : List ℕ) → length xs < 2 → hex_bytes xs ≡ []
+-- the byte of pair `place`
+pub pair_at : (digits : List ℕ) (place : ℕ) → 2 * place + 1 < length digits → get_or (hex_bytes digits) place 0 ≡ hex_value (get_or digits (2 * place) 0) * 16 + hex_value (get_or digits (2 * place + 1) 0)
 unfolding hex_bytes
-hex_bytes-short [] short = refl
-hex_bytes-short (x ∷ []) short = refl
-hex_bytes-short (x ∷ y ∷ xs) short = absurd (omega arith)
+pair_at [] place within = absurd (omega arith)
+pair_at (high ∷ []) place within = absurd (omega arith)
+pair_at (high ∷ low ∷ digits) zero within = refl
+pair_at (high ∷ low ∷ digits) (suc place) within =
+    let first : suc (suc (2 * place)) ≡ 2 * suc place = omega arith in
+    let second : suc (suc (2 * place + 1)) ≡ 2 * suc place + 1 = omega arith in
+    pair_at digits place (omega arith)
+    ∙ ap (λ i. hex_value (get_or (high ∷ low ∷ digits) i 0) * 16 + hex_value (get_or digits (2 * place + 1) 0)) first
+    ∙ ap (λ i. hex_value (get_or (high ∷ low ∷ digits) (2 * suc place) 0) * 16 + hex_value (get_or (high ∷ low ∷ digits) i 0)) second
 
 -- ---- words of pairs
 

@@ -1,6 +1,6 @@
 //! Values in a text: two digits of lower-case hexadecimal for each byte, and a dash for the empty value.
 
-ghost use Rattle.std.specs.Prelude.{◌≡◌, ◌<◌, ◌++◌, IfOk, OnOk, OnErr, true};
+ghost use Rattle.std.specs.Prelude.{◌≡◌, ◌<◌, ◌++◌, ◌/◌, IfOk, OnOk, OnErr, length, true};
 ghost use Rattle.std.specs.List.{list_all};
 ghost use Rattle.hy_text.specs.Slot.{is_lower_digit, is_hex_text, hex_value, hex_bytes, value_of, value_word};
 ghost use Rattle.hy_text.specs.Gives.{Gives};
@@ -50,13 +50,22 @@ fn paired_bytes(alloc: Global, digits: &[u8]) -> Result<Vec<u8>, AllocError>
     requires { list_all is_lower_digit digits.now ≡ true }
     ensures { IfOk result (λ bytes. bytes.items ≡ hex_bytes digits.now) }
 {
-    let mut bytes = Vec::with_capacity(alloc, digits.len() / 2)?;
-    let mut rest = digits;
-    while let [high, low, later @ ..] = rest {
-        bytes.push(digit_value(*high) * 16 + digit_value(*low))?;
-        rest = later;
-    }
+    let mut bytes = vec![in alloc; 0u8; digits.len() / 2]?;
+    write_pairs(digits, bytes.as_mut_slice());
     Ok(bytes)
+}
+
+/// Writes the byte of each pair of digits to its place.
+fn write_pairs(digits: &[u8], bytes: &mut [u8])
+    requires digits { list_all is_lower_digit digits.now ≡ true }
+    requires pairs { length bytes.old ≡ length digits.now / 2 }
+    ensures { bytes.new ≡ hex_bytes digits.now }
+{
+    for place in 0..bytes.len() {
+        let high = digit_value(digits[2 * place]);
+        let low = digit_value(digits[2 * place + 1]);
+        bytes[place] = high * 16 + low;
+    }
 }
 
 /// The value of at most `limit` bytes that the word prints.

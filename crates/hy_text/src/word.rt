@@ -5,6 +5,7 @@ ghost use Rattle.hy_text.specs.Line.{pieces_at, first_word, later_words};
 ghost use Rattle.hy_text.specs.Slot.{keyword, end_of};
 
 use hy_base::Cause;
+use memchr::memchr;
 use std::marker::Model;
 
 /// The words that are left of a line, or of a list whose separator is a comma.
@@ -24,11 +25,18 @@ impl<'a> Model for Words<'a> {
     ghost view = { λ words. pieces_left words.separator (option_copied words.rest) };
 }
 
+/// From so many bytes on they are searched many at once, which costs more to begin.
+const MANY_BYTES: usize = 64;
+
 /// Where the first separator stands.
 fn separator_place(separator: u8, bytes: &[u8]) -> Option<usize>
     ensures { result ≡ position (λ b. b == separator) bytes.now }
 {
-    bytes.iter().position(|byte| *byte == separator)
+    if bytes.len() < MANY_BYTES {
+        bytes.iter().position(|byte| *byte == separator)
+    } else {
+        memchr(separator, bytes)
+    }
 }
 
 /// The bytes before the first separator and those after it, or nothing where none stands in the bytes.

@@ -1,26 +1,41 @@
 -- What the replay of a text answers.
-use Rattle.std.specs.Prelude.{◌≡◌, ℕ, List, reverse, Result, Ok, Err}
+use Rattle.std.specs.Prelude.{◌≡◌, ◌≤◌, List, ℕ, All, length, Result, Ok, Err}
 use Rattle.hy_base.specs.declared.fault.TextFault.{TextFault}
+use Rattle.hy_record.specs.Clouds.{clouds_of}
 use Rattle.hy_order.specs.Linearization.{IsReportLinearizable}
 use Rattle.hy_order.specs.Report.{report_text}
-use Rattle.hy_quiet.specs.Replay.{quiet_report}
-use Rattle.hy_quiet.specs.Schedule.{IsSchedule, IsQuiet, schedule_text, schedule_of}
-use Rattle.hy_quiet.specs.declared.event.Event.{Event}
+use Rattle.hy_sched.specs.Ranges.{IsSchedule}
+use Rattle.hy_sched.specs.Reading.{schedule_of}
+use Rattle.hy_sched.specs.Text.{IsScheduleText, schedule_text}
+use Rattle.hy_sched.specs.declared.schedule.Schedule.{Schedule}
+use Rattle.hy_trace.specs.Hashed.{IsCollisionFree}
+use Rattle.hy_trace.specs.Held.{HasLiars}
+use Rattle.hy_world.specs.Schedules.{params_of, trace_of_schedule, report_of_schedule}
 use Rattle.hy_top.specs.declared.status.Status.{Status}
 use Rattle.hy_top.specs.declared.status.Status.TheVariants.{BadInput, NoMemory}
 
--- the text is that of a quiet schedule; the output is its report, in which each order is linearizable
-pub record IsReplayed (text output : List ℕ) : Type 0 where
-  pub events : List Event
-  pub schedule : IsSchedule events
-  pub spelled : text ≡ schedule_text events
-  pub report : output ≡ report_text (quiet_report (reverse events))
-  pub linearizable : IsReportLinearizable (quiet_report (reverse events))
+-- no two different strings that were hashed in the run of the schedule share a hash
+abbrev pub HashesApart : Schedule → Type 0
+HashesApart schedule = IsCollisionFree (params_of schedule.params) (trace_of_schedule schedule)
 
--- the text is that of no quiet schedule, and this is its first fault
+-- the store bears as many faulty clouds as the schedule has Byzantine ones
+abbrev pub BearsItsLiars : Schedule → Type 0
+BearsItsLiars schedule = HasLiars (params_of schedule.params) schedule.params.f
+
+-- the text is that of a schedule; the output is its report, in which each order is linearizable, and each version that is listed lies
+-- in enough clouds to rebuild it
+pub record IsReplayed (text output : List ℕ) : Type 0 where
+  pub schedule : Schedule
+  pub ranges : IsSchedule schedule
+  pub spelled : text ≡ schedule_text schedule
+  pub report : output ≡ report_text (report_of_schedule schedule)
+  pub linearizable : HashesApart schedule → IsReportLinearizable (report_of_schedule schedule)
+  pub retrievable : BearsItsLiars schedule → All (λ held. schedule.params.k ≤ length (clouds_of held.clouds)) (report_of_schedule schedule).held
+
+-- the text is that of no schedule, and this is its first fault
 pub record IsNoSchedule (text : List ℕ) (fault : TextFault) : Type 0 where
   pub first : schedule_of text ≡ Err fault
-  pub other : ¬ IsQuiet text
+  pub other : ¬ IsScheduleText text
 
 -- what the replay of a text answers
 abbrev pub Replays : List ℕ → Result (List ℕ) Status → Type 0

@@ -6,6 +6,8 @@ use std::alloc::Global;
 use std::process::Abort;
 use std::test::Fail;
 
+mod schedules;
+
 /// A call of the program: the text of its input and how many line feeds stand after it, the
 /// numbers of the read and the write that fail, or 0, and what it is to answer and to write.
 #[derive(Drop)]

@@ -9,7 +9,8 @@ use crate::line::legal_line;
 use crate::status::Status;
 use hy_base::Blob;
 use hy_order::{first_illegal, read_report, write_report};
-use hy_quiet::{quiet_orders_are_linearizable, read_schedule, replay};
+use hy_sched::read_schedule;
+use hy_world::replay;
 use std::alloc::Global;
 
 /// What the command makes of the text: its output, or why it is refused.
@@ -26,10 +27,10 @@ pub(crate) fn output_on(alloc: Global, command: TextCommand, text: Blob) -> Resu
 fn replay_text(alloc: Global, text: Blob) -> Result<Blob, Status>
     ensures { Replays text result }
 {
-    let events = read_schedule(alloc, text.bytes())?;
+    let schedule = read_schedule(alloc, text.bytes())?;
     drop(text);
-    quiet_orders_are_linearizable();
-    let report = replay(alloc, events.into_items())?;
+    let report = replay(alloc, &schedule)?;
+    drop(schedule);
     Ok(write_report(alloc, &report)?)
 }
 

@@ -1,9 +1,13 @@
-use Rattle.std.proofs.Common.{◌+◌}
-use Rattle.std.specs.Prelude.{slice_index}
-use Rattle.hy_code.proofs.Ranges.{pushed}
+use Rattle.std.proofs.Common.{◌≡◌, ◌∙◌, ◌*◌, ◌++◌, ap, sym, List, ℕ, length}
+use Rattle.hy_code.specs.declared.pick.Pick.{Pick}
+use Rattle.hy_code.proofs.PartLemmas.{padded}
 use Rattle.hy_code.proofs.parts.part.Goals as goal
 
-pub loop-place-preserved : goal.loop-place-preserved
-loop-place-preserved c =
-    pushed (λ place. slice_index c.args.value.now (_ + place)) c.loop-place.place c.loop-place.bytes.items _ c.byte_or_zero.result
-    c.loop-place.invariant c.in_ok-push.ensures.items c.byte_or_zero.ensures
+pub returns : goal.returns
+returns c =
+    let pick_of : List ℕ → Pick = λ bytes. record { cloud = c.args.number; bytes = bytes } in
+    ap pick_of
+    (c.of.ensures
+    ∙ padded c.args.value.now c.extend_from_slice.new.self.items c.resize.new.self.items (c.args.number * c.args.size) c.args.size _
+    (c.in_ok-extend_from_slice.ensures.items ∙ ap (λ xs. xs ++ c.cut.result.now) c.in_ok-bytes.ensures.items ∙ c.cut.ensures)
+    c.extend_from_slice.new.self.ok.0 c.in_ok-resize.ensures.items)

@@ -6,8 +6,11 @@ use Rattle.hy_code.proofs.rebuilding.parts_joined.Goals as goal
 
 pub loop-part-preserved : goal.loop-part-preserved
 loop-part-preserved c =
-    joined (row_at c.fragment_size-fragment_size.result c.args.picks.now) c.loop-part.part c.loop-part.value.items c.extend_from_slice.new.self.items c.deref.result.now
-    c.loop-part.invariant c.in_ok-extend_from_slice.ensures.items (c.deref.ensures.value ∙ c.in_ok-bytes.ensures)
+    let row = row_at c.fragment_size-fragment_size.result in
+    let through = c.in_ok-polynomials.ensures in
+    let view = c.polynomials.view_is in
+    joined (row c.args.picks.now) c.loop-part.part c.loop-part.value.items c.append_part.new.value.items _
+    c.loop-part.invariant c.in_ok-append_part.ensures cc
 
 same : (a b : ℕ) → a ≤ b → b ≤ a → a ≡ b
 same a b low high = omega arith

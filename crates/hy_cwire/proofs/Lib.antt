@@ -1,0 +1,11 @@
+pub mod Blocks
+pub mod Numerals
+pub mod Values
+pub mod FieldCounts
+pub mod Tokens
+pub mod Stages
+pub mod Once
+pub mod Heads
+pub mod Literals
+pub mod Requests
+pub mod Responses

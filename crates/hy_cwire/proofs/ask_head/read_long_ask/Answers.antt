@@ -1,0 +1,13 @@
+-- There is room for every field that a head can have.
+use Rattle.std.proofs.Common.{length, arith, ap, ◌∙◌, append-nil, inr, refl}
+use Rattle.httparse.specs.Grammar.{print_request}
+use Rattle.hy_cwire.proofs.FieldCounts.{request_fields}
+use Rattle.hy_cwire.proofs.ask_head.read_long_ask.Goals as goal
+
+pub returns : goal.returns
+returns c = λ some. inr (
+  λ h reads. let over = c.in-NoRoom.ensures.no_room refl h reads in
+      let size = ap length (reads.1 ∙ append-nil (print_request h)) in
+      omega (arith, over, size, request_fields h, c.requires, c.deref_mut.ensures.len, c.in_ok-all.ensures),
+  refl,
+)

@@ -1,0 +1,6 @@
+use Rattle.std.proofs.Common.{lit<}
+use Rattle.hy_cwire.proofs.Blocks.{no-block-nil}
+use Rattle.hy_cwire.proofs.say_reader.SayReader.new.Goals as goal
+
+pub returns-clause-stands : goal.returns-clause-stands
+returns-clause-stands c = (c.new.ensures, no-block-nil, lit< tt)

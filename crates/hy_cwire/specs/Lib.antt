@@ -1,0 +1,9 @@
+pub mod Fault
+pub mod Block
+pub mod Lengths
+pub mod Named
+pub mod Asks
+pub mod Says
+pub mod Stages
+pub mod Readers
+pub mod Writing

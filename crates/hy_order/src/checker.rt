@@ -1,0 +1,10 @@
+//! The checker: whether the orders of a report are linearizations.
+
+mod checking;
+mod index;
+mod listing;
+mod membership;
+mod real_time;
+mod register;
+
+pub use checking::{check, first_illegal};

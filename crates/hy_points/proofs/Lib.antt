@@ -1,0 +1,10 @@
+pub mod Sorting
+mod Moments
+mod Tellings
+mod Raising
+mod Marking
+mod Places
+mod Heights
+pub mod InOrder
+mod Courses
+mod Placing

@@ -1,0 +1,5 @@
+pub mod Lookups
+pub mod Atomic
+pub mod Marks
+pub mod Orders
+pub mod Index
