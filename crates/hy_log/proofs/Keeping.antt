@@ -7,7 +7,7 @@ use Rattle.std.proofs.lemmas.Bool.{cases_lt, le-leb, lt-leb, ltb-true}
 use Rattle.hy_trace.specs.Deeds.{Params, Deed}
 use Rattle.hy_trace.specs.Messages.{Message, sent_at, messages_of, message_at, step_of}
 use Rattle.hy_log.specs.declared.post.Post.{Post}
-use Rattle.hy_log.specs.declared.post.Posted.{Posted}
+use Rattle.hy_log.specs.Kept.{Posted}
 use Rattle.hy_log.specs.declared.effects.Beginning.{Beginning}
 use Rattle.hy_log.specs.declared.effects.Effects.{Effects}
 use Rattle.hy_log.specs.declared.log.Started.{Started}

@@ -23,7 +23,7 @@ use Rattle.hy_theorems.proofs.Placed.{orders-same}
 use Rattle.hy_log.specs.declared.course.Course.{Course}
 use Rattle.hy_log.specs.declared.log.Started.{Started}
 use Rattle.hy_log.specs.declared.place.Place.{Place}
-use Rattle.hy_log.specs.declared.post.Posted.{Posted}
+use Rattle.hy_log.specs.Kept.{Posted}
 use Rattle.hy_log.specs.Courses.{AreCourses}
 use Rattle.hy_log.specs.Log.{LogKeeps}
 use Rattle.hy_log.specs.Orders.{added, course_place, number_at, order_line, placed_from, places_at, with_place}

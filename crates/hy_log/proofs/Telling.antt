@@ -20,7 +20,7 @@ use Rattle.hy_theorems.proofs.Histories.{is-history}
 use Rattle.hy_theorems.proofs.Listing.{reverse-more, all-reverse}
 use Rattle.hy_log.specs.declared.course.Course.{Course}
 use Rattle.hy_log.specs.declared.log.Started.{Started}
-use Rattle.hy_log.specs.declared.post.Posted.{Posted}
+use Rattle.hy_log.specs.Kept.{Posted}
 use Rattle.hy_record.specs.declared.action.Action.{Action}
 use Rattle.hy_log.specs.Courses.{course_of, kept_return, AreCourses}
 use Rattle.hy_log.specs.History.{AreRunning, told_progress, told_end, told_operation, told_from}

@@ -1,5 +1,6 @@
 pub mod Courses
 pub mod Effects
+pub mod Kept
 pub mod History
 pub mod Log
 pub mod Orders

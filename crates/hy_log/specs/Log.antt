@@ -6,7 +6,7 @@ use Rattle.hy_trace.specs.Trace.{IsTrace}
 use Rattle.hy_log.specs.declared.course.Course.{Course}
 use Rattle.hy_log.specs.Courses.{AreCourses}
 use Rattle.hy_log.specs.declared.post.Post.{Post}
-use Rattle.hy_log.specs.declared.post.Posted.{Posted}
+use Rattle.hy_log.specs.Kept.{Posted}
 use Rattle.hy_log.specs.declared.effects.Beginning.{Beginning}
 use Rattle.hy_log.specs.declared.log.Started.{Started}
 use Rattle.hy_log.specs.declared.log.Log.{Log}

@@ -8,8 +8,10 @@ ghost use Rattle.hy_log.specs.Log.{Keeps, posted, started, posted_at};
 
 use crate::courses::Courses;
 use crate::effects::{Beginning, Effects};
+use crate::kept::Kept;
+use crate::last_key::LastKey;
 use crate::notes::{note_of_heard, note_of_return, note_of_update};
-use crate::post::{Post, Posted};
+use crate::post::Post;
 use hy_base::NoMemory;
 use std::alloc::Global;
 
@@ -21,12 +23,14 @@ pub struct Started {
 }
 
 /// The messages and the operations of a run, each with its step.
-#[derive(Debug, Drop)]
+#[derive(Drop)]
 pub struct Log {
-    pub posts: Vec<Posted>,
+    pub posts: Vec<Kept>,
     pub starts: Vec<Started>,
     pub courses: Courses,
     pub steps: u64,
+    /// The key of the request to a cloud that was kept last.
+    pub(crate) last_key: LastKey,
 }
 
 impl Log {
@@ -39,6 +43,7 @@ impl Log {
             starts: Vec::new(alloc),
             courses: Courses::new(alloc),
             steps: 0,
+            last_key: LastKey::new(),
         }
     }
 
@@ -49,7 +54,7 @@ impl Log {
         ensures keeps { OnOk result ((p : TraceParams) (d : Deed) (t : List Deed) → AreEffects p d t effects → Keeps self.old p t → Keeps self.new p (d ∷ t)) }
     {
         let step = self.steps + 1;
-        add_posts(&mut self.posts, step, effects.posts)?;
+        add_posts(&mut self.posts, &mut self.last_key, step, effects.posts)?;
         add_start(&mut self.starts, step, effects.began)?;
         self.courses.note(note_of_heard(effects.heard))?;
         self.courses.note(note_of_return(step, effects.returned))?;
@@ -59,7 +64,7 @@ impl Log {
     }
 
     /// The message of this number, with its step.
-    pub fn posted(&self, number: u64) -> Option<&Posted>
+    pub fn posted(&self, number: u64) -> Option<&Kept>
         ensures { option_copied result ≡ posted_at number self.now.posts.items }
     {
         if number == 0 {
@@ -70,11 +75,18 @@ impl Log {
 }
 
 /// Adds messages of this step.
-fn add_posts(posts: &mut Vec<Posted>, step: u64, new: Vec<Post>) -> Result<(), NoMemory>
+fn add_posts(
+    posts: &mut Vec<Kept>,
+    last_key: &mut LastKey,
+    step: u64,
+    new: Vec<Post>,
+) -> Result<(), NoMemory>
     ensures { OnOk result (posts.new.items ≡ posts.old.items ++ map (posted step) new.items) }
 {
+    let alloc = *posts.allocator();
     for post in new {
-        posts.push(Posted { step, post })?;
+        let kept = Kept::of(alloc, step, post, last_key)?;
+        posts.push(kept)?;
     }
     Ok(())
 }

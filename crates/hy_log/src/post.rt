@@ -1,4 +1,4 @@
-//! Messages as the simulator keeps them.
+//! Messages as clients and the service send them.
 
 ghost use Rattle.std.specs.Prelude.{◌≡◌, map, IfOk};
 ghost use Rattle.hy_trace.specs.Messages.{message_of, Say};
@@ -17,13 +17,6 @@ pub enum Post {
     Request(CloudAsk),
     /// An answer to a client.
     Answer(Cue),
-}
-
-/// A message, and the step at which it was sent.
-#[derive(Debug, Drop)]
-pub struct Posted {
-    pub step: u64,
-    pub post: Post,
 }
 
 /// What a client sends, as messages.

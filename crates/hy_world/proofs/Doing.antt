@@ -20,7 +20,7 @@ use Rattle.hy_trace.specs.Schedule.{deed_of, delivery, is_free, trace_of}
 use Rattle.hy_trace.specs.Trace.{IsTrace}
 use Rattle.hy_trace.proofs.Steps.{schedule-trace}
 use Rattle.hy_log.specs.declared.post.Post.{Post}
-use Rattle.hy_log.specs.declared.post.Posted.{Posted}
+use Rattle.hy_log.specs.Kept.{Posted}
 use Rattle.hy_log.specs.declared.effects.Effects.{Effects}
 use Rattle.hy_log.specs.declared.log.Log.{Log}
 use Rattle.hy_log.specs.declared.log.Started.{Started}

@@ -11,18 +11,18 @@ ghost use Rattle.hy_record.specs.declared.message.MetaAsk.{MetaAsk};
 ghost use Rattle.hy_meta.specs.Service.{record_stamp};
 ghost use Rattle.hy_world.specs.Schedules.{params_of};
 ghost use Rattle.hy_log.specs.Effects.{post_of, updated_by};
+ghost use Rattle.hy_log.specs.Kept.{post_in};
 ghost use Rattle.hy_trace.specs.Held.{held_of, held_with};
 ghost use Rattle.hy_world.specs.Nodes.{addressee, NodesStand};
 ghost use Rattle.hy_world.specs.Machines.{MachinesStand, MachinesDo};
 
-use hy_log::{Effects, Updated};
-use hy_sched::Params;
 use crate::nodes::Nodes;
-use hy_log::{Post, posts_of_says};
 use hy_base::NoMemory;
+use hy_log::{Effects, KeptPost, Updated, posts_of_says};
 use hy_meta::Meta;
 use hy_order::Held;
 use hy_record::{Cue, Key, MetaAsk, MetaSay, Record, Stamp};
+use hy_sched::Params;
 use std::alloc::Global;
 
 /// The machines of a store.
@@ -58,13 +58,16 @@ impl<M: Meta + Drop> Machines<M> {
     }
 
     /// A message is delivered, which was sent at this step.
-    pub(crate) fn deliver(&mut self, alloc: Global, made: u64, post: &Post) -> Result<Effects, NoMemory>
-        ensures { (message : Message) → post_of message ≡ post.now → MachinesDo M.served M.given (λ p t. delivery p t made (Some message)) self.old self.new result }
+    pub(crate) fn deliver(&mut self, alloc: Global, made: u64, post: &KeptPost) -> Result<Effects, NoMemory>
+        ensures { (message : Message) → post_of message ≡ post_in post.now → MachinesDo M.served M.given (λ p t. delivery p t made (Some message)) self.old self.new result }
     {
         match post {
-            Post::Ask(ask) => self.serve(alloc, ask),
-            Post::Request(ask) => self.nodes.grant(alloc, ask),
-            Post::Answer(cue) => self.nodes.hand(alloc, client_of(cue), made, cue),
+            KeptPost::Ask(ask) => self.serve(alloc, ask),
+            KeptPost::Request(request) => {
+                let ask = request.ask(alloc)?;
+                self.nodes.grant(alloc, &ask)
+            }
+            KeptPost::Answer(cue) => self.nodes.hand(alloc, client_of(cue), made, cue),
         }
     }
 

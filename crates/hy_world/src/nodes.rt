@@ -3,16 +3,15 @@
 ghost use Rattle.std.specs.Prelude.{◌≡◌, ◌++◌, ◌∷◌, [], length, OnOk};
 ghost use Rattle.hy_base.specs.Shape.{IsShape, cloud_count};
 
-use hy_client::Client;
 use crate::copies::copy_of_action;
-use hy_log::{Beginning, Effects, return_of};
-use hy_sched::Params;
-use hy_log::{Post, posts_of};
 use crate::seat::Seat;
 use hy_base::{NoMemory, cloud_count};
+use hy_client::Client;
 use hy_cloud::Cloud;
+use hy_log::{Beginning, Effects, Post, posts_of, return_of};
 use crate::cloud_set::has_cloud;
 use hy_record::{Action, CloudAsk, CloudReply, Cue};
+use hy_sched::Params;
 use std::alloc::Global;
 
 /// The clients that joined, and the clouds of the store; a Byzantine one is never asked.

@@ -11,9 +11,9 @@ ghost use Rattle.hy_client.specs.Clients.{running_of};
 ghost use Rattle.hy_log.specs.History.{told_progress};
 ghost use Rattle.hy_world.specs.Seats.{StandsForSeat, begun_at, value_size, is_no_memory, heard_by};
 
+use hy_base::NoMemory;
 use hy_client::{Client, InvokeFault};
 use hy_log::Heard;
-use hy_base::NoMemory;
 use hy_operation::{Progress, stamp_of};
 use hy_protocol::is_for;
 use hy_record::{Action, Cue, Key, MetaSay, Out, Stamp, Turn};

@@ -14,13 +14,12 @@ ghost use Rattle.hy_world.specs.Nodes.{HasBegun};
 ghost use Rattle.hy_world.specs.World.{Replays, DoesBy};
 
 use crate::copies::copy_of_say;
-use hy_log::Effects;
-use hy_sched::{Event, Params};
-use hy_log::Log;
 use crate::machines::Machines;
 use hy_base::NoMemory;
+use hy_log::{Effects, Log};
 use hy_meta::Meta;
 use hy_record::CloudReply;
+use hy_sched::{Event, Params};
 use hy_trace::MAX_GIVES;
 use std::alloc::Global;
 
@@ -179,7 +178,7 @@ fn give<M: Meta + Drop>(
     ensures { DoesBy M.served M.given log.now (λ p t. deed_of p (steps.Give number) t) machines.old machines.new result }
 {
     match log.posted(number) {
-        Some(posted) => machines.deliver(alloc, posted.step, &posted.post),
+        Some(kept) => machines.deliver(alloc, kept.step(), kept.post()),
         None => machines.nodes.rest(alloc),
     }
 }

@@ -2,12 +2,12 @@
 
 ghost use Rattle.std.specs.Prelude.{◌≡◌, ◌*◌, ◌≤◌, false};
 
-use hy_sched::{Event, Params};
 use crate::simulation::Simulation;
 use hy_base::NoMemory;
 use hy_meta::{Meta, Service};
 use hy_order::{Held, History, Report};
 use hy_record::Key;
+use hy_sched::{Event, Params};
 use std::alloc::Global;
 
 /// A store whose clients, service and clouds take the steps of a schedule. It stands for the trace of these steps.
