@@ -1,5 +1,0 @@
-pub mod Lookups
-pub mod Atomic
-pub mod Marks
-pub mod Orders
-pub mod Index
