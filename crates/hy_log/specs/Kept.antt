@@ -22,7 +22,16 @@ act_in kept_acts.Get = acts.Get
 act_in kept_acts.Delete = acts.Delete
 
 abbrev pub request_in : KeptRequest → CloudAsk
-request_in r = record { client = r.client; op = r.op; cloud = r.cloud; wish = record { key = r.key.value; stamp = r.stamp; act = act_in r.act } }
+request_in r = record {
+  client = r.client;
+  op = r.op;
+  cloud = r.cloud;
+  wish = record {
+    key = r.key.value;
+    stamp = r.stamp;
+    act = act_in r.act;
+  };
+}
 
 -- the message that is kept so
 abbrev pub post_in : KeptPost → Post

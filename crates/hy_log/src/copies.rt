@@ -7,7 +7,7 @@ use hy_record::{Action, Reply};
 use std::alloc::Global;
 
 /// A copy of what was asked.
-pub(crate) fn copy_of_action(alloc: Global, action: &Action) -> Result<Action, NoMemory>
+pub fn copy_of_action(alloc: Global, action: &Action) -> Result<Action, NoMemory>
     ensures { IfOk result (λ copy. copy ≡ action.now) }
 {
     match action {

@@ -60,7 +60,12 @@ impl Kept {
     ghost use Rattle.hy_log.specs.Log.{posted};
 
     /// A message of this step; its key is shared where it is that of the request before.
-    pub(crate) fn of(alloc: Global, step: u64, post: Post, last: &mut LastKey) -> Result<Kept, NoMemory>
+    pub(crate) fn of(
+        alloc: Global,
+        step: u64,
+        post: Post,
+        last: &mut LastKey,
+    ) -> Result<Kept, NoMemory>
         ensures { IfOk result (λ kept. kept ≡ posted step post) }
     {
         let post = kept_post(alloc, post, last)?;

@@ -15,6 +15,7 @@ mod place;
 mod places;
 mod post;
 
+pub use copies::copy_of_action;
 pub use course::{Course, Returned};
 pub use courses::Courses;
 pub use effects::{Beginning, Effects, Heard, Return, Updated, return_of};

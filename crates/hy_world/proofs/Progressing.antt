@@ -70,9 +70,9 @@ running-session p c t start asked began none =
     let some : not (o == 0) ≡ true = sym asked ∙ ap (λ (x : Option Start). is_some (action_of x)) began in
     let quiet : replied p.f p.k c o start.action (inputs_of c o t) ≡ None = ap (reply_after p c o (inputs_of c o t)) (sym began) ∙ none in
     let runs : (not (o == 0) && not (is_some (reply_by s (inputs_of c o t) (action_of (start_of c o t))))) ≡ true =
-        ap (λ (b : Bool). b && not (is_some (reply_by s (inputs_of c o t) (action_of (start_of c o t))))) some
-        ∙ ap (λ (x : Option Start). not (is_some (reply_by s (inputs_of c o t) (action_of x)))) began
-        ∙ ap (λ (x : Option Reply). not (is_some x)) quiet in
+    ap (λ (b : Bool). b && not (is_some (reply_by s (inputs_of c o t) (action_of (start_of c o t))))) some
+    ∙ ap (λ (x : Option Start). not (is_some (reply_by s (inputs_of c o t) (action_of x)))) began
+    ∙ ap (λ (x : Option Reply). not (is_some x)) quiet in
     ap (λ (b : Bool). cond b (progress_by s (action_of (start_of c o t))) None) runs ∙ ap (λ (x : Option Start). progress_by s (action_of x)) began
 
 asked-at : (p : Params) (t : List Deed) (seats : List Seat) (i : ℕ) → i < length seats → Standing p t seats → is_some (session_of p (i + 1) t).action ≡ not ((session_of p (i + 1) t).begun == 0)

@@ -266,19 +266,19 @@ granting p t params seats clouds made ask x y say e honest inside is goes answer
     let deed : delivery p t made (Some (Request ask)) ≡ Granted ask = ap (λ (b : Bool). cond b Nothing (Granted ask)) (ap (λ (q : Params). q.is_liar ask.cloud) r.params_are ∙ honest) in
     let quiet = granted-quiet ask t in
     subst (λ (d : Deed). IsDone p d t e params seats (set clouds ask.cloud y)) (sym deed) (
-      record {
-        effects = record { posts = sent ∙ ap (λ (a : CloudSay). posts.Answer (cues.Cloud (record { client = ask.client; op = ask.op; cloud = ask.cloud; key = ask.wish.key; stamp = ask.wish.stamp; say = a })) ∷ []) (answers (granted ask.cloud t) kept); began = began; returned = returned; heard = hears; updated = updated };
-        nodes = record {
-          params_are = r.params_are;
-          shape_is = r.shape_is;
-          seat_count = r.seat_count ∙ sym quiet.joins;
-          standing = standing-all p t seats (Granted ask) (λ c. granted-foreign c ask t) r.standing;
-          unborn = λ c past. foreign-same p c (Granted ask) t (granted-foreign c ask t) ∙ r.unborn c (subst (λ (n : ℕ). n < c) quiet.joins past);
-          nobody = foreign-same p 0 (Granted ask) t (granted-foreign 0 ask t) ∙ r.nobody;
-          keeping = keeping-set t clouds ask y inside (goes (granted ask.cloud t) kept) r.keeping;
-        };
-        quiet = quiet;
-      })
+    record {
+      effects = record { posts = sent ∙ ap (λ (a : CloudSay). posts.Answer (cues.Cloud (record { client = ask.client; op = ask.op; cloud = ask.cloud; key = ask.wish.key; stamp = ask.wish.stamp; say = a })) ∷ []) (answers (granted ask.cloud t) kept); began = began; returned = returned; heard = hears; updated = updated };
+      nodes = record {
+        params_are = r.params_are;
+        shape_is = r.shape_is;
+        seat_count = r.seat_count ∙ sym quiet.joins;
+        standing = standing-all p t seats (Granted ask) (λ c. granted-foreign c ask t) r.standing;
+        unborn = λ c past. foreign-same p c (Granted ask) t (granted-foreign c ask t) ∙ r.unborn c (subst (λ (n : ℕ). n < c) quiet.joins past);
+        nobody = foreign-same p 0 (Granted ask) t (granted-foreign 0 ask t) ∙ r.nobody;
+        keeping = keeping-set t clouds ask y inside (goes (granted ask.cloud t) kept) r.keeping;
+      };
+      quiet = quiet;
+    })
 
 -- ---- crashes
 

@@ -16,10 +16,14 @@ pub record MachinesRun {M : Type 0} (serves : M → List MetaAsk → Type 0) (gi
   pub given_is : given service ≡ joined t
   pub nodes_stand : NodesStand p t nodes
 
-abbrev pub MachinesStand : {M : Type 0} → (M → List MetaAsk → Type 0) → (M → ℕ) → Params → List Deed → Machines M → Type 0
+abbrev pub MachinesStand : {M : Type 0} → (M → List MetaAsk → Type 0) → (M → ℕ) → Params → List Deed → Machines M →
+    Type 0
 MachinesStand serves given p t machines = MachinesRun serves given p t machines.service machines.nodes
 
 -- the machines do the deed, in a trace with room for one more
-abbrev pub MachinesDo : {M : Type 0} → (M → List MetaAsk → Type 0) → (M → ℕ) → (Params → List Deed → Deed) → Machines M → Machines M → Result Effects NoMemory → Type 0
+abbrev pub MachinesDo : {M : Type 0} → (M → List MetaAsk → Type 0) → (M → ℕ) → (Params → List Deed → Deed) →
+    Machines M → Machines M → Result Effects NoMemory → Type 0
 MachinesDo serves given deed old new result =
-    IfOk result (λ e. (p : Params) (t : List Deed) → IsTrace p t → length t + 1 < 2 ^ 32 → MachinesStand serves given p t old → AreEffects p (deed p t) t e × MachinesStand serves given p (deed p t ∷ t) new)
+    IfOk result (λ e. (p : Params) (t : List Deed) → IsTrace p t → length t + 1 < 2 ^ 32 →
+    MachinesStand serves given p t old →
+    AreEffects p (deed p t) t e × MachinesStand serves given p (deed p t ∷ t) new)

@@ -28,7 +28,15 @@ action_of (Some start) = Some start.action
 
 -- the session of the client of this number
 unfoldable pub session_of : Params → ℕ → List Deed → Session
-session_of p c t = record { f = p.f; k = p.k; client = c; begun = begun c t; action = action_of (start_of c (begun c t) t); inputs = inputs_of c (begun c t) t; stopped = list_any (stops c) t }
+session_of p c t = record {
+  f = p.f;
+  k = p.k;
+  client = c;
+  begun = begun c t;
+  action = action_of (start_of c (begun c t) t);
+  inputs = inputs_of c (begun c t) t;
+  stopped = list_any (stops c) t;
+}
 
 -- whom an input goes to; 0 where it says nobody
 abbrev pub addressee : Cue → ℕ
@@ -41,10 +49,12 @@ pub record NodesRun (p : Params) (t : List Deed) (params : StoreParams) (seats :
   pub params_are : p ≡ params_of params
   pub shape_is : IsShape p.f p.k
   pub seat_count : length seats ≡ joined t
-  pub standing : (i : ℕ) (other : Seat) → i < length seats → StandsForSeat (slice_index_or seats i other) (session_of p (i + 1) t)
+  pub standing : (i : ℕ) (other : Seat) → i < length seats →
+      StandsForSeat (slice_index_or seats i other) (session_of p (i + 1) t)
   pub unborn : (c : ℕ) → joined t < c → session_of p c t ≡ fresh_session p.f p.k c
   pub nobody : session_of p 0 t ≡ fresh_session p.f p.k 0
-  pub keeping : (i : ℕ) (other : Cloud) → i < length clouds → StandsForWishes (slice_index_or clouds i other) (granted i t)
+  pub keeping : (i : ℕ) (other : Cloud) → i < length clouds →
+      StandsForWishes (slice_index_or clouds i other) (granted i t)
 
 -- those of these nodes do
 abbrev pub NodesStand : Params → List Deed → Nodes → Type 0
@@ -63,7 +73,8 @@ pub record IsDone (p : Params) (d : Deed) (t : List Deed) (e : Effects) (params 
 
 -- the nodes do the deed, in a trace with room for one more
 abbrev pub Does : (Params → List Deed → Deed) → Nodes → Nodes → Result Effects NoMemory → Type 0
-Does deed old new result = IfOk result (λ e. (p : Params) (t : List Deed) → IsTrace p t → length t + 1 < 2 ^ 32 → NodesStand p t old → IsDone p (deed p t) t e new.params new.seats.items new.clouds.items)
+Does deed old new result = IfOk result (λ e. (p : Params) (t : List Deed) → IsTrace p t → length t + 1 < 2 ^ 32 →
+    NodesStand p t old → IsDone p (deed p t) t e new.params new.seats.items new.clouds.items)
 
 -- the client joined, and began an operation
 pub record HasBegunIn (client : ℕ) (t : List Deed) : Type 0 where

@@ -11,22 +11,28 @@ use Rattle.hy_trace.specs.Held.{HasLiars, holders_of}
 use Rattle.hy_theorems.specs.Deleting.{deletion}
 use Rattle.hy_theorems.specs.Starving.{IsGet, IsStarvedGet}
 
--- with at most f Byzantine clouds, each current version with a value is held, with valid bytes, by k honest clouds of its list
+-- with at most f Byzantine clouds, each current version with a value is held, with valid bytes, by k honest clouds of
+-- its list
 abbrev pub StaysRetrievable : Params → List Deed → Type 0
 StaysRetrievable p t =
-    HasLiars p p.f → (key : List ℕ) (r : RecordValue) → record_after (served t) key ≡ Some r → is_tombstone r.kind ≡ false → p.k ≤ length (holders_of p t key r)
+    HasLiars p p.f → (key : List ℕ) (r : RecordValue) → record_after (served t) key ≡ Some r →
+    is_tombstone r.kind ≡ false → p.k ≤ length (holders_of p t key r)
 
--- with at most f Byzantine clouds, where each honest cloud of its list has answered a pending get, the record that it follows was superseded
+-- with at most f Byzantine clouds, where each honest cloud of its list has answered a pending get, the record that it
+-- follows was superseded
 abbrev pub StarvesOnlyOld : Params → List Deed → Type 0
 StarvesOnlyOld p t =
-    HasLiars p p.f → (client op : ℕ) (key : List ℕ) (r : RecordValue) → IsStarvedGet p client op key r t → stamp_lt r.stamp (record_stamp (served t) key) ≡ true
+    HasLiars p p.f → (client op : ℕ) (key : List ℕ) (r : RecordValue) → IsStarvedGet p client op key r t →
+    stamp_lt r.stamp (record_stamp (served t) key) ≡ true
 
 -- a get refreshes at most as often as updates of its key were applied since it began
 abbrev pub RefreshesAtMost : Params → List Deed → Type 0
 RefreshesAtMost p t =
-    (client op : ℕ) (key : List ℕ) (start : Start) → IsGet client op key start t → refresh_count (inputs_of client op t) + applied_count (served start.before) key ≤ applied_count (served t) key
+    (client op : ℕ) (key : List ℕ) (start : Start) → IsGet client op key start t →
+    refresh_count (inputs_of client op t) + applied_count (served start.before) key ≤ applied_count (served t) key
 
 -- a deletion that was asked for is of a timestamp below that of the record
 abbrev pub DeletesOnlyOld : Params → List Deed → Type 0
 DeletesOnlyOld p t =
-    (client op cloud : ℕ) (key : List ℕ) (stamp : Timestamp) → IsSent p t (deletion client op cloud key stamp) → stamp_lt stamp (record_stamp (served t) key) ≡ true
+    (client op cloud : ℕ) (key : List ℕ) (stamp : Timestamp) → IsSent p t (deletion client op cloud key stamp) →
+    stamp_lt stamp (record_stamp (served t) key) ≡ true

@@ -30,7 +30,14 @@ first_step events.Join = steps.Join
 first_step (events.Do client action) = steps.Invoke client action
 first_step (events.Invoke client action) = steps.Invoke client action
 first_step (events.Give number) = steps.Give number
-first_step (events.Lie cloud client op key stamp say) = steps.Lie (record { client = client; op = op; cloud = cloud; key = key; stamp = stamp; say = say })
+first_step (events.Lie cloud client op key stamp say) = steps.Lie (record {
+  client = client;
+  op = op;
+  cloud = cloud;
+  key = key;
+  stamp = stamp;
+  say = say;
+})
 first_step (events.Tick client) = steps.Tick client
 first_step (events.Stop client) = steps.Stop client
 

@@ -16,9 +16,12 @@ use Rattle.hy_log.specs.Log.{Keeps}
 use Rattle.hy_world.specs.Machines.{MachinesStand}
 
 -- the machines do the deed, where the log keeps the trace
-abbrev pub DoesBy : {M : Type 0} → (M → List MetaAsk → Type 0) → (M → ℕ) → Log → (Params → List Deed → Deed) → Machines M → Machines M → Result Effects NoMemory → Type 0
+abbrev pub DoesBy : {M : Type 0} → (M → List MetaAsk → Type 0) → (M → ℕ) → Log → (Params → List Deed → Deed) →
+    Machines M → Machines M → Result Effects NoMemory → Type 0
 DoesBy serves given log deed old new result =
-    IfOk result (λ e. (p : Params) (t : List Deed) → IsTrace p t → length t + 1 < 2 ^ 32 → Keeps log p t → MachinesStand serves given p t old → AreEffects p (deed p t) t e × MachinesStand serves given p (deed p t ∷ t) new)
+    IfOk result (λ e. (p : Params) (t : List Deed) → IsTrace p t → length t + 1 < 2 ^ 32 → Keeps log p t →
+    MachinesStand serves given p t old →
+    AreEffects p (deed p t) t e × MachinesStand serves given p (deed p t ∷ t) new)
 
 -- the machines and the log stand for the trace of the steps
 pub record ReplaysBy {M : Type 0} (serves : M → List MetaAsk → Type 0) (given : M → ℕ) (p : Params) (steps : List Step) (machines : Machines M) (log : Log) : Type 0 where
@@ -33,7 +36,8 @@ abbrev pub ReplaysSome : {M : Type 0} → (M → List MetaAsk → Type 0) → (M
 ReplaysSome serves given simulation = (p : Params) × (steps : List Step) × Replays serves given p steps simulation
 
 -- the world stands for the trace of the steps, the newest of which comes first
-abbrev pub StandsForSteps : {M : Type 0} → (M → List MetaAsk → Type 0) → (M → ℕ) → Params → List Step → WorldOver M → Type 0
+abbrev pub StandsForSteps : {M : Type 0} → (M → List MetaAsk → Type 0) → (M → ℕ) → Params → List Step → WorldOver M →
+    Type 0
 StandsForSteps serves given p steps world = Replays serves given p steps world.simulation
 
 -- the world stands for the trace of some steps: it has not met want of memory

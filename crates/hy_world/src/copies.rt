@@ -3,7 +3,7 @@
 ghost use Rattle.std.specs.Prelude.{◌≡◌, IfOk};
 
 use hy_base::{Blob, NoMemory};
-use hy_record::{Action, CloudSay};
+use hy_record::CloudSay;
 use std::alloc::Global;
 
 /// A copy of a cloud's answer.
@@ -17,20 +17,5 @@ pub(crate) fn copy_of_say(alloc: Global, say: &CloudSay) -> Result<CloudSay, NoM
         CloudSay::Missing => Ok(CloudSay::Missing),
         CloudSay::Gone => Ok(CloudSay::Gone),
         CloudSay::Bad(status) => Ok(CloudSay::Bad(*status)),
-    }
-}
-
-/// A copy of an action.
-pub(crate) fn copy_of_action(alloc: Global, action: &Action) -> Result<Action, NoMemory>
-    ensures { IfOk result (λ copy. copy ≡ action.now) }
-{
-    match action {
-        Action::Put { key, value } => {
-            let value = Blob::copy_of(alloc, value.bytes())?;
-            Ok(Action::Put { key: *key, value })
-        }
-        Action::Get { key } => Ok(Action::Get { key: *key }),
-        Action::Delete { key } => Ok(Action::Delete { key: *key }),
-        Action::Collect { key } => Ok(Action::Collect { key: *key }),
     }
 }

@@ -16,7 +16,8 @@ use hy_record::{Key, Record};
 impl Nodes {
     /// The honest clouds of the record's list that hold valid bytes under its name, as a set.
     pub(crate) fn holders(&self, key: &Key, rec: &Record) -> u16
-        ensures { (p : TraceParams) (t : List Deed) → NodesStand p t self.now → result ≡ set_of (holders_of p t key.now rec.now) }
+        ensures { (p : TraceParams) (t : List Deed) → NodesStand p t self.now →
+            result ≡ set_of (holders_of p t key.now rec.now) }
     {
         let mut marks = Marks::none();
         for cloud in 0..16u8 {
@@ -29,7 +30,8 @@ impl Nodes {
     /// Whether the cloud is of the record's list, honest, and holds valid bytes under its name.
     fn is_holder(&self, cloud: u8, key: &Key, rec: &Record) -> bool
         requires { cloud < 16 }
-        ensures { (p : TraceParams) (t : List Deed) → NodesStand p t self.now → result ≡ is_holder p t key.now rec.now cloud }
+        ensures { (p : TraceParams) (t : List Deed) → NodesStand p t self.now →
+            result ≡ is_holder p t key.now rec.now cloud }
     {
         if !has_cloud(rec.clouds(), cloud) {
             return false;
@@ -39,7 +41,8 @@ impl Nodes {
 
     /// Whether the cloud is honest, and holds bytes that are valid for the record under its name.
     fn holds_valid(&self, cloud: u8, key: &Key, rec: &Record) -> bool
-        ensures { (p : TraceParams) (t : List Deed) → NodesStand p t self.now → result ≡ holds_valid p t key.now rec.now cloud }
+        ensures { (p : TraceParams) (t : List Deed) → NodesStand p t self.now →
+            result ≡ holds_valid p t key.now rec.now cloud }
     {
         if self.is_liar(cloud) {
             return false;
@@ -53,7 +56,8 @@ impl Nodes {
 
 /// Marks the cloud, where this is so.
 fn mark_if(marks: &mut Marks, cloud: u8, is_so: bool)
-    ensures { (i : ℕ) → i < 16 → is_marked marks.new i ≡ (is_marked marks.old i || (is_so && cloud == i)) }
+    ensures { (i : ℕ) → i < 16 →
+        is_marked marks.new i ≡ (is_marked marks.old i || (is_so && cloud == i)) }
 {
     if is_so {
         marks.mark(cloud);

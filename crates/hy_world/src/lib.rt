@@ -1,4 +1,5 @@
-//! The simulator: the clients, the metadata service and the clouds of a store, which stand for the trace of the steps that they took.
+//! The simulator: the clients, the metadata service and the clouds of a store, which stand for the
+//! trace of the steps that they took.
 #![tactic(auto)]
 
 mod cloud_set;
@@ -7,7 +8,6 @@ mod holders;
 mod machines;
 mod nodes;
 mod progress;
-
 mod reporting;
 mod run;
 mod seat;

@@ -46,7 +46,8 @@ impl<M: Meta + Drop> Machines<M> {
 
     /// The next client joins.
     pub(crate) fn join(&mut self, alloc: Global) -> Result<Effects, NoMemory>
-        ensures { MachinesDo M.served M.given (λ p t. deed_of p steps.Join t) self.old self.new result }
+        ensures { MachinesDo M.served M.given (λ p t.
+            deed_of p steps.Join t) self.old self.new result }
     {
         match self.service.join() {
             Ok(number) => {
@@ -58,8 +59,15 @@ impl<M: Meta + Drop> Machines<M> {
     }
 
     /// A message is delivered, which was sent at this step.
-    pub(crate) fn deliver(&mut self, alloc: Global, made: u64, post: &KeptPost) -> Result<Effects, NoMemory>
-        ensures { (message : Message) → post_of message ≡ post_in post.now → MachinesDo M.served M.given (λ p t. delivery p t made (Some message)) self.old self.new result }
+    pub(crate) fn deliver(
+        &mut self,
+        alloc: Global,
+        made: u64,
+        post: &KeptPost,
+    ) -> Result<Effects, NoMemory>
+        ensures { (message : Message) → post_of message ≡ post_in post.now →
+            MachinesDo M.served M.given (λ p t.
+            delivery p t made (Some message)) self.old self.new result }
     {
         match post {
             KeptPost::Ask(ask) => self.serve(alloc, ask),
@@ -87,9 +95,11 @@ impl<M: Meta + Drop> Machines<M> {
         })
     }
 
-    /// The current version of the key, where that has a value, and the clouds from which it can be retrieved.
+    /// The current version of the key, where that has a value, and the clouds from which it can be
+    /// retrieved.
     pub(crate) fn held(&self, key: &Key) -> Option<Held>
-        ensures { (p : TraceParams) (t : List Deed) → MachinesStand M.served M.given p t self.now → result ≡ held_of p t key.now }
+        ensures { (p : TraceParams) (t : List Deed) → MachinesStand M.served M.given p t self.now →
+            result ≡ held_of p t key.now }
     {
         match self.service.current(key) {
             Some(rec) => held_by(&self.nodes, key, rec),
@@ -99,7 +109,8 @@ impl<M: Meta + Drop> Machines<M> {
 
     /// Which operation's update the request is, and whether the service will apply it.
     fn updated_by(&self, ask: &MetaAsk) -> Option<Updated>
-        ensures { (asks : List MetaAsk) → M.served self.now.service asks → result ≡ updated_by ask.now asks }
+        ensures { (asks : List MetaAsk) → M.served self.now.service asks →
+            result ≡ updated_by ask.now asks }
     {
         match ask {
             MetaAsk::Update {
@@ -125,7 +136,8 @@ impl<M: Meta + Drop> Machines<M> {
     /// The timestamp of the key's record; (0, 0) where there is none.
     #[tactic(auto, unfolding(hy_meta::specs::Service::record_stamp))]
     fn stamp_of(&self, key: &Key) -> Stamp
-        ensures { (asks : List MetaAsk) → M.served self.now.service asks → result ≡ record_stamp asks key.now }
+        ensures { (asks : List MetaAsk) → M.served self.now.service asks →
+            result ≡ record_stamp asks key.now }
     {
         match self.service.current(key) {
             Some(rec) => rec.stamp(),
@@ -152,9 +164,11 @@ fn client_of(cue: &Cue) -> u32
     }
 }
 
-/// The version of the key's record, where that is no deletion's, and the clouds from which it can be retrieved.
+/// The version of the key's record, where that is no deletion's, and the clouds from which it can
+/// be retrieved.
 fn held_by(nodes: &Nodes, key: &Key, rec: &Record) -> Option<Held>
-    ensures { (p : TraceParams) (t : List Deed) → NodesStand p t nodes.now → result ≡ held_with p t key.now (Some rec.now) }
+    ensures { (p : TraceParams) (t : List Deed) → NodesStand p t nodes.now →
+        result ≡ held_with p t key.now (Some rec.now) }
 {
     if rec.is_tomb() {
         return None;

@@ -3,13 +3,12 @@
 ghost use Rattle.std.specs.Prelude.{◌≡◌, ◌++◌, ◌∷◌, [], length, OnOk};
 ghost use Rattle.hy_base.specs.Shape.{IsShape, cloud_count};
 
-use crate::copies::copy_of_action;
+use crate::cloud_set::has_cloud;
 use crate::seat::Seat;
 use hy_base::{NoMemory, cloud_count};
 use hy_client::Client;
 use hy_cloud::Cloud;
-use hy_log::{Beginning, Effects, Post, posts_of, return_of};
-use crate::cloud_set::has_cloud;
+use hy_log::{Beginning, Effects, Post, copy_of_action, posts_of, return_of};
 use hy_record::{Action, CloudAsk, CloudReply, Cue};
 use hy_sched::Params;
 use std::alloc::Global;
@@ -76,7 +75,9 @@ impl Nodes {
         requires { 1 ≤ number }
         ensures params { self.new.params ≡ self.old.params }
         ensures clouds { self.new.clouds.items ≡ self.old.clouds.items }
-        ensures seats { OnOk result ((seat : Seat) × StandsForSeat seat (fresh_session self.old.params.f self.old.params.k number) × (self.new.seats.items ≡ self.old.seats.items ++ seat ∷ [])) }
+        ensures seats { OnOk result ((seat : Seat)
+            × StandsForSeat seat (fresh_session self.old.params.f self.old.params.k number)
+            × (self.new.seats.items ≡ self.old.seats.items ++ seat ∷ [])) }
     {
         let client = Client::new(number, self.params.f, self.params.k);
         let seat = Seat {
@@ -127,7 +128,8 @@ impl Nodes {
         action: &Action,
     ) -> Result<Effects, NoMemory>
         requires { value_size action.now ≤ MAX_VALUE }
-        ensures { Does (λ p t. deed_of p (steps.Invoke client action.now) t) self.old self.new result }
+        ensures { Does (λ p t.
+            deed_of p (steps.Invoke client action.now) t) self.old self.new result }
     {
         if client == 0 || client as usize > self.seats.len() {
             return self.rest(alloc);
@@ -185,7 +187,9 @@ impl Nodes {
 
     /// Whether the last operation of a client that began one has no reply.
     pub(crate) fn awaits_reply(&self, client: u32) -> bool
-        ensures { (p : TraceParams) (t : List Deed) → HasBegunIn client t → NodesStand p t self.now → result ≡ not (is_some (reply_of p client (begun client t) t)) }
+        ensures { (p : TraceParams) (t : List Deed) → HasBegunIn client t →
+            NodesStand p t self.now →
+            result ≡ not (is_some (reply_of p client (begun client t) t)) }
     {
         if client == 0 || client as usize > self.seats.len() {
             return false;
@@ -195,7 +199,8 @@ impl Nodes {
 
     /// A cloud serves a request, if it is honest.
     pub(crate) fn grant(&mut self, alloc: Global, ask: &CloudAsk) -> Result<Effects, NoMemory>
-        ensures { (made : ℕ) → Does (λ p t. delivery p t made (Some (Request ask.now))) self.old self.new result }
+        ensures { (made : ℕ) → Does (λ p t.
+            delivery p t made (Some (Request ask.now))) self.old self.new result }
     {
         if self.is_liar(ask.cloud) {
             return self.rest(alloc);
@@ -223,7 +228,8 @@ impl Nodes {
     /// So many clouds that hold nothing.
     fn empty_clouds(alloc: Global, count: u8) -> Result<Vec<Cloud>, NoMemory>
         ensures count { IfOk result (λ clouds. length clouds.items ≡ count) }
-        ensures empty { IfOk result (λ clouds. All (λ cloud. StandsForWishes cloud []) clouds.items) }
+        ensures empty { IfOk result (λ clouds. All (λ cloud.
+            StandsForWishes cloud []) clouds.items) }
     {
         let mut clouds = Vec::new(alloc);
         for _i in 0..count {

@@ -11,9 +11,11 @@ use hy_operation::Progress;
 use std::alloc::Global;
 
 impl Nodes {
-    /// How far the last operation of each client is, where that has no reply; the client of number 1 stands first.
+    /// How far the last operation of each client is, where that has no reply; the client of number
+    /// 1 stands first.
     pub(crate) fn running(&self, alloc: Global) -> Result<Vec<Option<Progress>>, NoMemory>
-        ensures { IfOk result (λ running. (p : TraceParams) (t : List Deed) → NodesStand p t self.now → AreRunning p t running.items) }
+        ensures { IfOk result (λ running. (p : TraceParams) (t : List Deed) →
+            NodesStand p t self.now → AreRunning p t running.items) }
     {
         let mut running = Vec::new(alloc);
         for seat in &self.seats {

@@ -24,17 +24,20 @@ impl<M: Meta + Drop> Simulation<M> {
     /// The operations that began, each with its reply or how far it is.
     pub(crate) fn history(&self, alloc: Global) -> Result<History, NoMemory>
         requires { ReplaysSome M.served M.given self.now }
-        ensures { IfOk result (λ history. (p : TraceParams) (steps : List Step) → Replays M.served M.given p steps self.now → history ≡ history_of p (trace_of p steps)) }
+        ensures { IfOk result (λ history. (p : TraceParams) (steps : List Step) →
+            Replays M.served M.given p steps self.now → history ≡ history_of p (trace_of p steps)) }
     {
         let running = self.machines.nodes.running(alloc)?;
         let operations = self.log.history(alloc, &running)?;
         Ok(History::of(operations))
     }
 
-    /// The history, an order for each key of a put, get or delete, and the copies of the current versions of these keys.
+    /// The history, an order for each key of a put, get or delete, and the copies of the current
+    /// versions of these keys.
     pub(crate) fn report(&self, alloc: Global) -> Result<Report, NoMemory>
         requires { ReplaysSome M.served M.given self.now }
-        ensures { IfOk result (λ report. (p : TraceParams) (steps : List Step) → Replays M.served M.given p steps self.now → report ≡ report_of p (trace_of p steps)) }
+        ensures { IfOk result (λ report. (p : TraceParams) (steps : List Step) →
+            Replays M.served M.given p steps self.now → report ≡ report_of p (trace_of p steps)) }
     {
         let history = self.history(alloc)?;
         let orders = self.log.orders(alloc)?;
@@ -48,9 +51,12 @@ impl<M: Meta + Drop> Simulation<M> {
 }
 
 impl<M: Meta + Drop> Machines<M> {
-    /// The current versions of the keys of these orders, each with the clouds from which it can be retrieved.
+    /// The current versions of the keys of these orders, each with the clouds from which it can be
+    /// retrieved.
     pub(crate) fn held_copies(&self, alloc: Global, orders: &[Order]) -> Result<Vec<Held>, NoMemory>
-        ensures { IfOk result (λ copies. (p : TraceParams) (t : List Deed) → MachinesStand M.served M.given p t self.now → copies.items ≡ filter_map (held_of p t) (map order_key orders.now)) }
+        ensures { IfOk result (λ copies. (p : TraceParams) (t : List Deed) →
+            MachinesStand M.served M.given p t self.now →
+            copies.items ≡ filter_map (held_of p t) (map order_key orders.now)) }
     {
         let mut copies = Vec::new(alloc);
         for order in orders {

@@ -15,15 +15,21 @@ use hy_order::Report;
 use hy_sched::Schedule;
 use std::alloc::Global;
 
-/// The report of a schedule: its events are taken one after the other in a store in which nobody joined.
+/// The report of a schedule: its events are taken one after the other in a store in which nobody
+/// joined.
 ///
-/// Where no two strings that were hashed collide, the report is linearizable, with any number of Byzantine clouds. With at most f of them,
+/// Where no two strings that were hashed collide, the report is linearizable, with any number of
+/// Byzantine clouds. With at most f of them,
 /// each version that it tells of is held by at least k honest clouds.
 pub fn replay(alloc: Global, schedule: &Schedule) -> Result<Report, NoMemory>
     requires { IsSchedule schedule.now }
     ensures report { IfOk result (λ report. report ≡ report_of_schedule schedule.now) }
-    ensures linearizable { IfOk result (λ report. IsCollisionFree (params_of schedule.now.params) (trace_of_schedule schedule.now) → IsReportLinearizable report) }
-    ensures retrievable { IfOk result (λ report. HasLiars (params_of schedule.now.params) schedule.now.params.f → All (λ held. schedule.now.params.k ≤ length (clouds_of held.clouds)) report.held) }
+    ensures linearizable { IfOk result (λ report.
+        IsCollisionFree (params_of schedule.now.params) (trace_of_schedule schedule.now) →
+        IsReportLinearizable report) }
+    ensures retrievable { IfOk result (λ report.
+        HasLiars (params_of schedule.now.params) schedule.now.params.f → All (λ held.
+        schedule.now.params.k ≤ length (clouds_of held.clouds)) report.held) }
 {
     let service = Service::new(alloc)?;
     let report = replay_over(alloc, schedule, service)?;
@@ -31,13 +37,21 @@ pub fn replay(alloc: Global, schedule: &Schedule) -> Result<Report, NoMemory>
 }
 
 /// The same over another metadata service, which served nothing and gave no id.
-pub fn replay_over<M: Meta + Drop>(alloc: Global, schedule: &Schedule, service: M) -> Result<Report, NoMemory>
+pub fn replay_over<M: Meta + Drop>(
+    alloc: Global,
+    schedule: &Schedule,
+    service: M,
+) -> Result<Report, NoMemory>
     requires schedule { IsSchedule schedule.now }
     requires served { M.served service [] }
     requires given { M.given service ≡ 0 }
     ensures report { IfOk result (λ report. report ≡ report_of_schedule schedule.now) }
-    ensures linearizable { IfOk result (λ report. IsCollisionFree (params_of schedule.now.params) (trace_of_schedule schedule.now) → IsReportLinearizable report) }
-    ensures retrievable { IfOk result (λ report. HasLiars (params_of schedule.now.params) schedule.now.params.f → All (λ held. schedule.now.params.k ≤ length (clouds_of held.clouds)) report.held) }
+    ensures linearizable { IfOk result (λ report.
+        IsCollisionFree (params_of schedule.now.params) (trace_of_schedule schedule.now) →
+        IsReportLinearizable report) }
+    ensures retrievable { IfOk result (λ report.
+        HasLiars (params_of schedule.now.params) schedule.now.params.f → All (λ held.
+        schedule.now.params.k ≤ length (clouds_of held.clouds)) report.held) }
 {
     let mut world = WorldOver::with(alloc, &schedule.params, service)?;
     for event in schedule.events.items() {

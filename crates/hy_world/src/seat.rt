@@ -30,13 +30,22 @@ pub(crate) struct Seat {
 }
 
 impl Seat {
-    /// Begins an operation on a value that is not too large, and answers what it sends first; none where the client is busy or stopped.
-    pub(crate) fn begin(&mut self, alloc: Global, action: &Action) -> Result<Option<Vec<Out>>, NoMemory>
+    /// Begins an operation on a value that is not too large, and answers what it sends first; none
+    /// where the client is busy or stopped.
+    pub(crate) fn begin(
+        &mut self,
+        alloc: Global,
+        action: &Action,
+    ) -> Result<Option<Vec<Out>>, NoMemory>
         requires room { begun_at self.old < 4294967295 }
         requires size { value_size action.now ≤ MAX_VALUE }
-        ensures idle { IfOk result (λ sent. (s : Session) → StandsForSeat self.old s → is_some sent ≡ is_idle s) }
-        ensures begins { IfOk result (λ sent. MatchOption sent ((s : Session) → StandsForSeat self.old s → StandsForSeat self.new s) (λ outs. (s : Session) → StandsForSeat self.old s → StandsForSeat self.new (session_invoked s action.now))) }
-        ensures sends { IfOk result (λ sent. MatchOption sent (Unit {0}) (λ outs. (s : Session) → StandsForSeat self.old s → outs.items ≡ invoked_sends s action.now)) }
+        ensures idle { IfOk result (λ sent. (s : Session) → StandsForSeat self.old s →
+            is_some sent ≡ is_idle s) }
+        ensures begins { IfOk result (λ sent. MatchOption sent ((s : Session) →
+            StandsForSeat self.old s → StandsForSeat self.new s) (λ outs. (s : Session) →
+            StandsForSeat self.old s → StandsForSeat self.new (session_invoked s action.now))) }
+        ensures sends { IfOk result (λ sent. MatchOption sent (Unit {0}) (λ outs. (s : Session) →
+            StandsForSeat self.old s → outs.items ≡ invoked_sends s action.now)) }
     {
         match self.client.invoke(alloc, action) {
             Ok(outs) => {
@@ -52,8 +61,10 @@ impl Seat {
 
     /// Hands an input to the client.
     pub(crate) fn hand(&mut self, alloc: Global, cue: &Cue) -> Result<Turn, NoMemory>
-        ensures turn { IfOk result (λ turn. (s : Session) → StandsForSeat self.old s → turn ≡ session_turn s cue.now) }
-        ensures ok { OnOk result ((s : Session) → StandsForSeat self.old s → StandsForSeat self.new (session_after s cue.now)) }
+        ensures turn { IfOk result (λ turn. (s : Session) → StandsForSeat self.old s →
+            turn ≡ session_turn s cue.now) }
+        ensures ok { OnOk result ((s : Session) → StandsForSeat self.old s →
+            StandsForSeat self.new (session_after s cue.now)) }
     {
         let turn = self.client.step(alloc, cue)?;
         Ok(turn)
@@ -75,9 +86,11 @@ impl Seat {
         }
     }
 
-    /// What the client's operation of this number is told of the record by an input that was made at this step, if it takes it.
+    /// What the client's operation of this number is told of the record by an input that was made
+    /// at this step, if it takes it.
     pub(crate) fn hears(&self, client: u32, op: u32, made: u64, cue: &Cue) -> Option<Heard>
-        ensures { (s : Session) → StandsForSeat self.now s → result ≡ heard_by s client op made cue.now }
+        ensures { (s : Session) → StandsForSeat self.now s →
+            result ≡ heard_by s client op made cue.now }
     {
         match told_stamp(cue) {
             Some(stamp) => {
@@ -108,7 +121,8 @@ impl Seat {
 
     /// How far the client's last operation is, where that has no reply.
     pub(crate) fn progress(&self) -> Option<Progress>
-        ensures { (s : Session) → StandsForSeat self.now s → result ≡ option_map told_progress (session_progress s) }
+        ensures { (s : Session) → StandsForSeat self.now s →
+            result ≡ option_map told_progress (session_progress s) }
     {
         match self.client.running() {
             Some(running) => Some(Progress {
@@ -122,7 +136,8 @@ impl Seat {
 
     /// The client crashes.
     pub(crate) fn stop(&mut self)
-        ensures { (s : Session) → StandsForSeat self.old s → StandsForSeat self.new (session_stopped s) }
+        ensures { (s : Session) → StandsForSeat self.old s →
+            StandsForSeat self.new (session_stopped s) }
     {
         self.client.stop();
         self.is_stopped = true;

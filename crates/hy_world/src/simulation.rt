@@ -48,11 +48,16 @@ impl<M: Meta + Drop> Simulation<M> {
     pub(crate) fn take(&mut self, alloc: Global, event: &Event) -> Result<(), NoMemory>
         requires room { self.old.log.steps + 65537 < 2 ^ 32 }
         requires short { HasTextValue event.now }
-        ensures stands { OnOk result ((p : TraceParams) (before : List Step) → Replays M.served M.given p before self.old → Replays M.served M.given p (steps_with p event.now before) self.new) }
+        ensures stands { OnOk result ((p : TraceParams) (before : List Step) →
+            Replays M.served M.given p before self.old →
+            Replays M.served M.given p (steps_with p event.now before) self.new) }
         ensures steps { OnOk result (self.new.log.steps ≤ self.old.log.steps + 65537) }
     {
         match event {
-            Event::Do { client, action: _action } => {
+            Event::Do {
+                client,
+                action: _action,
+            } => {
                 self.take_do(alloc, *client, event)?;
                 Ok(())
             }
@@ -67,7 +72,9 @@ impl<M: Meta + Drop> Simulation<M> {
     fn take_first(&mut self, alloc: Global, event: &Event) -> Result<(), NoMemory>
         requires room { self.old.log.steps + 1 < 2 ^ 32 }
         requires short { HasTextValue event.now }
-        ensures stands { OnOk result ((p : TraceParams) (before : List Step) → Replays M.served M.given p before self.old → Replays M.served M.given p (first_step event.now ∷ before) self.new) }
+        ensures stands { OnOk result ((p : TraceParams) (before : List Step) →
+            Replays M.served M.given p before self.old →
+            Replays M.served M.given p (first_step event.now ∷ before) self.new) }
         ensures steps { OnOk result (self.new.log.steps ≡ self.old.log.steps + 1) }
     {
         let effects = effects_of(&mut self.machines, &self.log, alloc, event)?;
@@ -75,11 +82,14 @@ impl<M: Meta + Drop> Simulation<M> {
         Ok(())
     }
 
-    /// An operation from its invocation on: each message that is sent from then on is delivered once, in order, until the reply.
+    /// An operation from its invocation on: each message that is sent from then on is delivered
+    /// once, in order, until the reply.
     fn take_do(&mut self, alloc: Global, client: u32, event: &Event) -> Result<(), NoMemory>
         requires room { self.old.log.steps + 65537 < 2 ^ 32 }
         requires short { HasTextValue event.now }
-        ensures stands { OnOk result ((action : Action) → event.now ≡ events.Do client action → (p : TraceParams) (before : List Step) → Replays M.served M.given p before self.old → Replays M.served M.given p (with_do p client action before) self.new) }
+        ensures stands { OnOk result ((action : Action) → event.now ≡ events.Do client action →
+            (p : TraceParams) (before : List Step) → Replays M.served M.given p before self.old →
+            Replays M.served M.given p (with_do p client action before) self.new) }
         ensures steps { OnOk result (self.new.log.steps ≤ self.old.log.steps + 65537) }
     {
         let first = self.log.posts.len() as u64 + 1;
@@ -95,7 +105,9 @@ impl<M: Meta + Drop> Simulation<M> {
     /// The message of this number is delivered.
     fn take_give(&mut self, alloc: Global, number: u64) -> Result<(), NoMemory>
         requires { self.old.log.steps + 1 < 2 ^ 32 }
-        ensures stands { OnOk result ((p : TraceParams) (before : List Step) → Replays M.served M.given p before self.old → Replays M.served M.given p (steps.Give number ∷ before) self.new) }
+        ensures stands { OnOk result ((p : TraceParams) (before : List Step) →
+            Replays M.served M.given p before self.old →
+            Replays M.served M.given p (steps.Give number ∷ before) self.new) }
         ensures steps { OnOk result (self.new.log.steps ≡ self.old.log.steps + 1) }
     {
         let effects = give(&mut self.machines, &self.log, alloc, number)?;
@@ -107,7 +119,9 @@ impl<M: Meta + Drop> Simulation<M> {
     fn take_gives(&mut self, alloc: Global, client: u32, first: u64) -> Result<(), NoMemory>
         requires steps { self.old.log.steps + 65536 < 2 ^ 32 }
         requires first { first + 65536 < 2 ^ 64 }
-        ensures stands { OnOk result ((p : TraceParams) (before : List Step) → HasBegun p client before → Replays M.served M.given p before self.old → Replays M.served M.given p (with_gives MAX_GIVES p client first before) self.new) }
+        ensures stands { OnOk result ((p : TraceParams) (before : List Step) →
+            HasBegun p client before → Replays M.served M.given p before self.old →
+            Replays M.served M.given p (with_gives MAX_GIVES p client first before) self.new) }
         ensures steps { OnOk result (self.new.log.steps ≤ self.old.log.steps + 65536) }
     {
         for i in 0..MAX_GIVES {
@@ -120,9 +134,11 @@ impl<M: Meta + Drop> Simulation<M> {
         Ok(())
     }
 
-    /// Whether the last operation of a client that began one has no reply, and a message of this number was sent.
+    /// Whether the last operation of a client that began one has no reply, and a message of this
+    /// number was sent.
     fn goes_on(&self, client: u32, number: u64) -> bool
-        ensures { (p : TraceParams) (steps : List Step) → HasBegun p client steps → Replays M.served M.given p steps self.now → result ≡ goes_on p client number steps }
+        ensures { (p : TraceParams) (steps : List Step) → HasBegun p client steps →
+            Replays M.served M.given p steps self.now → result ≡ goes_on p client number steps }
     {
         let sent = self.log.posts.len() as u64;
         self.machines.nodes.awaits_reply(client) && number <= sent
@@ -137,7 +153,8 @@ fn effects_of<M: Meta + Drop>(
     event: &Event,
 ) -> Result<Effects, NoMemory>
     requires { HasTextValue event.now }
-    ensures { DoesBy M.served M.given log.now (λ p t. deed_of p (first_step event.now) t) machines.old machines.new result }
+    ensures { DoesBy M.served M.given log.now (λ p t.
+        deed_of p (first_step event.now) t) machines.old machines.new result }
 {
     match event {
         Event::Join => machines.join(alloc),
@@ -175,7 +192,8 @@ fn give<M: Meta + Drop>(
     alloc: Global,
     number: u64,
 ) -> Result<Effects, NoMemory>
-    ensures { DoesBy M.served M.given log.now (λ p t. deed_of p (steps.Give number) t) machines.old machines.new result }
+    ensures { DoesBy M.served M.given log.now (λ p t.
+        deed_of p (steps.Give number) t) machines.old machines.new result }
 {
     match log.posted(number) {
         Some(kept) => machines.deliver(alloc, kept.step(), kept.post()),

@@ -10,7 +10,8 @@ use hy_record::Key;
 use hy_sched::{Event, Params};
 use std::alloc::Global;
 
-/// A store whose clients, service and clouds take the steps of a schedule. It stands for the trace of these steps.
+/// A store whose clients, service and clouds take the steps of a schedule. It stands for the trace
+/// of these steps.
 ///
 /// It is generic over the metadata service. After want of memory it takes no step.
 #[derive(Drop)]
@@ -40,7 +41,8 @@ impl<M: Meta + Drop> WorldOver<M> {
     ghost use Rattle.hy_world.specs.Promises.{StaysRetrievable, StarvesOnlyOld, RefreshesAtMost, DeletesOnlyOld};
     ghost use Rattle.hy_world.specs.World.{StandsForSteps, StandsForSome, IsBroken, events_taken};
 
-    /// A store of these parameters in which nobody joined, with a service that served nothing and gave no id.
+    /// A store of these parameters in which nobody joined, with a service that served nothing and
+    /// gave no id.
     pub fn with(alloc: Global, params: &Params, service: M) -> Result<WorldOver<M>, NoMemory>
         requires shape { IsShape params.now.f params.now.k }
         requires served { M.served service [] }
@@ -58,18 +60,27 @@ impl<M: Meta + Drop> WorldOver<M> {
 
     /// An event, which takes one step; a `Do` takes one, and one for each message that it delivers.
     ///
-    /// After want of memory each later event answers that too. The promises hold after each event, whatever it is.
+    /// After want of memory each later event answers that too. The promises hold after each event,
+    /// whatever it is.
     pub fn step(&mut self, alloc: Global, event: &Event) -> Result<(), NoMemory>
         requires room { events_taken self.old < MAX_EVENTS }
         requires short { HasTextValue event.now }
-        ensures ok { OnOk result ((p : TraceParams) (before : List Step) → StandsForSteps M.served M.given p before self.old → StandsForSteps M.served M.given p (steps_with p event.now before) self.new) }
+        ensures ok { OnOk result ((p : TraceParams) (before : List Step) →
+            StandsForSteps M.served M.given p before self.old →
+            StandsForSteps M.served M.given p (steps_with p event.now before) self.new) }
         ensures events { OnOk result (events_taken self.new ≡ events_taken self.old + 1) }
         ensures err { OnErr result (IsBroken self.new) }
         ensures broken { IsBroken self.old → IsErr result }
-        ensures retrievable { (p : TraceParams) (steps : List Step) → StandsForSteps M.served M.given p steps self.new → StaysRetrievable p (trace_of p steps) }
-        ensures starved { (p : TraceParams) (steps : List Step) → StandsForSteps M.served M.given p steps self.new → StarvesOnlyOld p (trace_of p steps) }
-        ensures refreshes { (p : TraceParams) (steps : List Step) → StandsForSteps M.served M.given p steps self.new → RefreshesAtMost p (trace_of p steps) }
-        ensures deletions { (p : TraceParams) (steps : List Step) → StandsForSteps M.served M.given p steps self.new → DeletesOnlyOld p (trace_of p steps) }
+        ensures retrievable { (p : TraceParams) (steps : List Step) →
+            StandsForSteps M.served M.given p steps self.new →
+            StaysRetrievable p (trace_of p steps) }
+        ensures starved { (p : TraceParams) (steps : List Step) →
+            StandsForSteps M.served M.given p steps self.new → StarvesOnlyOld p (trace_of p steps) }
+        ensures refreshes { (p : TraceParams) (steps : List Step) →
+            StandsForSteps M.served M.given p steps self.new →
+            RefreshesAtMost p (trace_of p steps) }
+        ensures deletions { (p : TraceParams) (steps : List Step) →
+            StandsForSteps M.served M.given p steps self.new → DeletesOnlyOld p (trace_of p steps) }
     {
         self.advance(alloc, event)
     }
@@ -78,7 +89,9 @@ impl<M: Meta + Drop> WorldOver<M> {
     fn advance(&mut self, alloc: Global, event: &Event) -> Result<(), NoMemory>
         requires room { events_taken self.old < MAX_EVENTS }
         requires short { HasTextValue event.now }
-        ensures ok { OnOk result ((p : TraceParams) (before : List Step) → StandsForSteps M.served M.given p before self.old → StandsForSteps M.served M.given p (steps_with p event.now before) self.new) }
+        ensures ok { OnOk result ((p : TraceParams) (before : List Step) →
+            StandsForSteps M.served M.given p before self.old →
+            StandsForSteps M.served M.given p (steps_with p event.now before) self.new) }
         ensures events { OnOk result (events_taken self.new ≡ events_taken self.old + 1) }
         ensures err { OnErr result (IsBroken self.new) }
         ensures broken { IsBroken self.old → IsErr result }
@@ -98,11 +111,15 @@ impl<M: Meta + Drop> WorldOver<M> {
         }
     }
 
-    /// The current version of the key, and the honest clouds of its record's list that hold valid bytes under its name; none where the
-    /// key has no record, or that of a deletion.
+    /// The current version of the key, and the honest clouds of its record's list that hold valid
+    /// bytes under its name; none where the key has no record, or that of a deletion.
     pub fn held(&self, key: &Key) -> Option<Held>
-        ensures value { (p : TraceParams) (steps : List Step) → StandsForSteps M.served M.given p steps self.now → result ≡ held_of p (trace_of p steps) key.now }
-        ensures enough { (p : TraceParams) (steps : List Step) → StandsForSteps M.served M.given p steps self.now → HasLiars p p.f → IfSome result (λ held. p.k ≤ length (clouds_of held.clouds)) }
+        ensures value { (p : TraceParams) (steps : List Step) →
+            StandsForSteps M.served M.given p steps self.now →
+            result ≡ held_of p (trace_of p steps) key.now }
+        ensures enough { (p : TraceParams) (steps : List Step) →
+            StandsForSteps M.served M.given p steps self.now → HasLiars p p.f →
+            IfSome result (λ held. p.k ≤ length (clouds_of held.clouds)) }
     {
         self.simulation.machines.held(key)
     }
@@ -110,16 +127,21 @@ impl<M: Meta + Drop> WorldOver<M> {
     /// The operations that began, each with its reply or how far it is.
     pub fn history(&self, alloc: Global) -> Result<History, NoMemory>
         requires { StandsForSome M.served M.given self.now }
-        ensures { IfOk result (λ history. (p : TraceParams) (steps : List Step) → StandsForSteps M.served M.given p steps self.now → history ≡ history_of p (trace_of p steps)) }
+        ensures { IfOk result (λ history. (p : TraceParams) (steps : List Step) →
+            StandsForSteps M.served M.given p steps self.now →
+            history ≡ history_of p (trace_of p steps)) }
     {
         let history = self.simulation.history(alloc)?;
         Ok(history)
     }
 
-    /// The history, an order for each key of a put, get or delete, and the copies of the current versions of these keys.
+    /// The history, an order for each key of a put, get or delete, and the copies of the current
+    /// versions of these keys.
     pub fn report(&self, alloc: Global) -> Result<Report, NoMemory>
         requires { StandsForSome M.served M.given self.now }
-        ensures { IfOk result (λ report. (p : TraceParams) (steps : List Step) → StandsForSteps M.served M.given p steps self.now → report ≡ report_of p (trace_of p steps)) }
+        ensures { IfOk result (λ report. (p : TraceParams) (steps : List Step) →
+            StandsForSteps M.served M.given p steps self.now →
+            report ≡ report_of p (trace_of p steps)) }
     {
         let report = self.simulation.report(alloc)?;
         Ok(report)
@@ -127,14 +149,17 @@ impl<M: Meta + Drop> WorldOver<M> {
 
     /// How many messages were sent.
     pub fn sent(&self) -> u64
-        ensures { (p : TraceParams) (steps : List Step) → StandsForSteps M.served M.given p steps self.now → result ≡ length (messages_of p (trace_of p steps)) }
+        ensures { (p : TraceParams) (steps : List Step) →
+            StandsForSteps M.served M.given p steps self.now →
+            result ≡ length (messages_of p (trace_of p steps)) }
     {
         self.simulation.log.posts.len() as u64
     }
 
     /// How many steps were taken.
     pub fn steps(&self) -> u64
-        ensures { (p : TraceParams) (steps : List Step) → StandsForSteps M.served M.given p steps self.now → result ≡ length steps }
+        ensures { (p : TraceParams) (steps : List Step) →
+            StandsForSteps M.served M.given p steps self.now → result ≡ length steps }
     {
         self.simulation.log.steps
     }
@@ -149,7 +174,8 @@ impl WorldOver<Service> {
     /// A store of these parameters in which nobody joined, with the first metadata service.
     pub fn new(alloc: Global, params: &Params) -> Result<WorldOver<Service>, NoMemory>
         requires { IsShape params.now.f params.now.k }
-        ensures stands { let meta = ⟦<Service as Meta>⟧ in IfOk result (StandsForSteps meta.served meta.given (params_of params.now) []) }
+        ensures stands { let meta = ⟦<Service as Meta>⟧ in
+            IfOk result (StandsForSteps meta.served meta.given (params_of params.now) []) }
         ensures events { IfOk result (λ world. events_taken world ≡ 0) }
     {
         let service = Service::new(alloc)?;

@@ -53,7 +53,7 @@ returns g c =
     let p = params_of schedule.params in
     let past : length schedule.events ≤ c.loop-event.event-index = subst (λ (xs : List Event). length xs ≤ c.loop-event.event-index) c.items-event-items.ensures c.loop-event-test.false in
     let stands : StandsForSteps g.M.Meta.served g.M.Meta.given p (steps_of p schedule.events []) c.loop-event.world =
-        subst (λ (run : List Step). StandsForSteps g.M.Meta.served g.M.Meta.given p run c.loop-event.world) (steps-all p schedule.events c.loop-event.event-index past) c.loop-event.invariant.stands in
+    subst (λ (run : List Step). StandsForSteps g.M.Meta.served g.M.Meta.given p run c.loop-event.world) (steps-all p schedule.events c.loop-event.event-index past) c.loop-event.invariant.stands in
     let is : c.in_ok-report.report ≡ report_of_schedule schedule = c.in_ok-report.ensures p (steps_of p schedule.events []) stands in
     record {
       report = is;
