@@ -14,7 +14,7 @@ use Rattle.hy_order.specs.Keys.{insert_key, sorted_keys}
 use Rattle.hy_order.specs.ReportRanges.{register_key, register_keys}
 
 -- a set takes a key as a sorted list does
-insert_key-set : (keys : List (List ℕ)) (key : List ℕ) → set.insert_key (slice_cmp nat_cmp) keys key ≡ insert_key key keys
+pub insert_key-set : (keys : List (List ℕ)) (key : List ℕ) → set.insert_key (slice_cmp nat_cmp) keys key ≡ insert_key key keys
 insert_key-set [] key = refl
 insert_key-set (first ∷ keys) key = ap (λ later. match_ordering (slice_cmp nat_cmp key first) (key ∷ first ∷ keys) (first ∷ keys) (first ∷ later)) (insert_key-set keys key)
 
@@ -68,7 +68,7 @@ swap a b keys Less is = swap_less a b keys is
 swap a b keys Equal is = let same : a ≡ b = exact_bytes a b is in subst (λ k. insert_key a (insert_key k keys) ≡ insert_key k (insert_key a keys)) same refl
 swap a b keys Greater is = sym (swap_less b a keys (nat_list_cmp_total.antisymm b a ∙ ap ordering_reverse is))
 
-sorted_keys-more : (keys : List (List ℕ)) (key : List ℕ) → sorted_keys (keys ++ key ∷ []) ≡ insert_key key (sorted_keys keys)
+pub sorted_keys-more : (keys : List (List ℕ)) (key : List ℕ) → sorted_keys (keys ++ key ∷ []) ≡ insert_key key (sorted_keys keys)
 sorted_keys-more [] key = refl
 sorted_keys-more (first ∷ keys) key = ap (insert_key first) (sorted_keys-more keys key) ∙ swap first key (sorted_keys keys) (cmp first key) refl
 

@@ -3,7 +3,6 @@
 mod checking;
 mod index;
 mod listing;
-mod membership;
 mod real_time;
 mod register;
 

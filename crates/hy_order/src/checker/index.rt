@@ -6,8 +6,8 @@ ghost use Rattle.std.specs.Option.{option_copied};
 ghost use Rattle.hy_order.specs.Index.{IsGrouped, operations_under};
 ghost use Rattle.hy_order.specs.Linearization.{is_of_key, operation_at};
 
-use crate::checker::membership::key_of_action;
 use crate::history::History;
+use crate::membership::key_of_action;
 use crate::operation::Operation;
 use hy_base::NoMemory;
 use hy_record::Key;

@@ -13,7 +13,7 @@ ghost use Rattle.hy_order.specs.Violation.{
 };
 
 use crate::checker::index::OperationIndex;
-use crate::checker::membership::{is_finished, is_of_key, may_be_listed};
+use crate::membership::{is_finished, is_of_key, may_be_listed};
 use crate::operation::Operation;
 use hy_base::NoMemory;
 use hy_record::Key;

@@ -1,7 +1,7 @@
 //! Orders of small histories, and the verdicts on them.
 
 use super::*;
-use crate::text::reading::read_report;
+use crate::read_report;
 use hy_base::Numbers;
 use std::test::Fail;
 

@@ -13,7 +13,7 @@ use crate::operation::{End, Operation};
 use hy_record::{Action, Key, Reply};
 
 /// Whether the operation is one of the key.
-pub(crate) fn is_of_key(op: &Operation, key: &Key) -> bool
+pub fn is_of_key(op: &Operation, key: &Key) -> bool
     ensures { result ≡ is_of_key key.now op.now }
 {
     key_of_action(&op.action) == key
@@ -32,7 +32,7 @@ pub(crate) fn key_of_action(action: &Action) -> &Key
 }
 
 /// Whether it is the end of a finished put, get or delete, which each order of the key has to list.
-pub(crate) fn is_finished(end: &End) -> bool
+pub fn is_finished(end: &End) -> bool
     ensures { result ≡ is_finished end.now }
 {
     match end {
