@@ -12,11 +12,7 @@ const WORKED: [(&str, &str, &str); 19] = [
         "hybris 1 f 0 k 1 liars -\nopen\ndo 1 put a 616263\ndo 1 get a\n",
         "op 1 1 put a 616263 2 8 done 1 1\nop 2 1 get a 9 13 value 616263 1 1\norder a 1 2\nheld a 1 1 0\nend 2 1\n",
     ),
-    (
-        "empty_schedule",
-        "hybris 1 f 0 k 1 liars -\n",
-        "end 0 0\n",
-    ),
+    ("empty_schedule", "hybris 1 f 0 k 1 liars -\n", "end 0 0\n"),
     (
         "put_step_by_step",
         "hybris 1 f 1 k 1 liars -\nopen\ninvoke 1 put a 01\ngive 1\ngive 2\ngive 3\ngive 4\ngive 5\ngive 6\ngive 7\ngive 8\n",
@@ -144,5 +140,9 @@ fn worked_schedules_have_their_reports(rt: HostRuntime) -> Result<(), Fail> {
 
 #[test]
 fn collections_race_with_writers_and_a_reader(rt: HostRuntime) -> Result<(), Fail> {
-    all_answer(&rt, rt.alloc(), &[replay_of(RACE, Status::Done, ITS_REPORT)])
+    all_answer(
+        &rt,
+        rt.alloc(),
+        &[replay_of(RACE, Status::Done, ITS_REPORT)],
+    )
 }
