@@ -12,7 +12,8 @@ use Rattle.hy_record.specs.Record.{RecordValue}
 use Rattle.hy_record.specs.Stamp.{stamp_lt}
 use Rattle.hy_meta.specs.declared.watcher.Watcher.{Watcher}
 use Rattle.hy_meta.specs.Service.{stamp_of_record, record_stamp}
-use Rattle.hy_meta.specs.Watches.{service_answers, fired, fired_watches}
+use Rattle.hy_meta.specs.Watches.{fired, fired_watches}
+use Rattle.hy_meta.specs.Meta.{service_answers}
 use Rattle.hy_meta.proofs.Rising.{cases_bool}
 use Rattle.hy_protocol.specs.Inputs.{has_of}
 use Rattle.hy_protocol.specs.Operations.{key_of, sends_of}

@@ -1,6 +1,6 @@
 -- Each message goes to who asked, or tells of a watch that was waiting.
-use Rattle.std.proofs.Common.{◌≡◌, ℕ, Bool, true, List, [], ◌∷◌, length, Result, Ok, Err, refl, sym, subst, inl, inr, arith, All}
-use Rattle.std.specs.Prelude.{◌&&◌, filter, map, IfOk, Contains}
+use Rattle.std.proofs.Common.{◌≡◌, ℕ, Bool, true, List, [], ◌∷◌, Result, Ok, Err, refl, sym, subst, inl, inr, arith, All}
+use Rattle.std.specs.Prelude.{filter, map, IfOk, Contains}
 use Rattle.std.specs.Global.{Vec}
 use Rattle.std.proofs.lemmas.List.Elements.{All-nil, All-cons, All-map, Contains-append_right}
 use Rattle.hy_base.specs.declared.failure.NoMemory.{NoMemory}
@@ -11,8 +11,10 @@ use Rattle.hy_record.specs.declared.message.MetaSay.TheVariants as says
 use Rattle.hy_record.specs.Stamp.{Timestamp, stamp_lt}
 use Rattle.hy_meta.specs.declared.watcher.Watcher.{Watcher}
 use Rattle.hy_meta.specs.Service.{record_stamp}
-use Rattle.hy_meta.specs.Watches.{watches_of, is_passed, is_waiting, fired, fired_watches, service_answers}
-use Rattle.hy_meta.specs.Held.{Says, is_due}
+use Rattle.hy_meta.specs.Watches.{watches_of, is_passed, is_waiting, fired, fired_watches}
+use Rattle.hy_meta.specs.Meta.{service_answers}
+use Rattle.hy_meta.specs.Held.{is_due}
+use Rattle.hy_meta.specs.Meta.{Says}
 use Rattle.hy_meta.specs.Run.{IsAddressed}
 use Rattle.hy_meta.proofs.Rising.{cases_bool, both}
 use Rattle.hy_meta.proofs.Steps.{is_passed-waiting}

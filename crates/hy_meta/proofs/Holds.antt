@@ -12,15 +12,20 @@ use Rattle.hy_meta.specs.declared.rows.Row.{Row}
 use Rattle.hy_meta.specs.declared.watcher.Watcher.{Watcher}
 use Rattle.hy_meta.specs.Service.{stamp_of_record, outdates, has_stamp, insert_stamp}
 use Rattle.hy_meta.specs.Rows.{row_of, record_of_row, olds_of_row, record_in, olds_in, PutsRow, SameRows, AddsOld, superseded}
-use Rattle.hy_meta.specs.Held.{Serves, is_due}
+use Rattle.hy_meta.specs.Held.{is_due}
+use Rattle.hy_meta.specs.Meta.{StandsFor}
 use Rattle.hy_meta.proofs.Rising.{cases_bool, has_stamp-insert, has_stamp-filter}
 use Rattle.hy_meta.proofs.Steps.{stands-new, stands-same, stands-refused, stands-applied, stands-forget}
+
+-- the rows and the waiting watches are those after these requests
+abbrev pub RowsServe : List Row → List Watcher → List MetaAsk → Type 0
+RowsServe rows watches served = StandsFor (λ key. record_in rows key) (λ key stamp. has_stamp (olds_in rows key) stamp) watches served
 
 pub cases_row : (o : Option Row) → (o ≡ None) ⊎ ((row : Row) × (o ≡ Some row))
 cases_row None = inl refl
 cases_row (Some row) = inr (row, refl)
 
-pub serves-new : Serves [] [] []
+pub serves-new : RowsServe [] [] []
 unfolding record_in olds_in row_of has_stamp
 serves-new = stands-new
 
@@ -96,8 +101,8 @@ at_key k key f new out is =
       | inr other ↦ rw other refl
     ]
 
-pub serves-applied : (old new : List Row) (W W' : List Watcher) (before : List MetaAsk) (client op : ℕ) (k : List ℕ) (r : RecordValue) → Serves old W before → stamp_lt (stamp_of_record (record_in old k)) r.stamp ≡ true
-    → PutsRow old new k (superseded (row_of old k) k r) → W' ≡ filter (λ w. not (is_due k r.stamp w)) W → Serves new W' (asks.Update client op k r ∷ before)
+pub serves-applied : (old new : List Row) (W W' : List Watcher) (before : List MetaAsk) (client op : ℕ) (k : List ℕ) (r : RecordValue) → RowsServe old W before → stamp_lt (stamp_of_record (record_in old k)) r.stamp ≡ true
+    → PutsRow old new k (superseded (row_of old k) k r) → W' ≡ filter (λ w. not (is_due k r.stamp w)) W → RowsServe new W' (asks.Update client op k r ∷ before)
 serves-applied old new W W' before client op k r s above puts watches =
     let row = superseded (row_of old k) k r in
     let above_row : stamp_lt (stamp_of_record (record_of_row (row_of old k))) r.stamp ≡ true = ap (λ (o : Option RecordValue). stamp_lt (stamp_of_record o) r.stamp) (sym (row-record old k)) ∙ above in
@@ -166,14 +171,14 @@ forgets-at k key f new listed is =
       | inr other ↦ rw other refl
     ]
 
-pub serves-refused : (old new : List Row) (W W' : List Watcher) (before : List MetaAsk) (client op : ℕ) (k : List ℕ) (r : RecordValue) → Serves old W before → stamp_lt (stamp_of_record (record_in old k)) r.stamp ≡ false
-    → MatchBool (stamp_lt r.stamp (stamp_of_record (record_in old k))) (AddsOld old new k r.stamp) (SameRows old new) → W' ≡ W → Serves new W' (asks.Update client op k r ∷ before)
+pub serves-refused : (old new : List Row) (W W' : List Watcher) (before : List MetaAsk) (client op : ℕ) (k : List ℕ) (r : RecordValue) → RowsServe old W before → stamp_lt (stamp_of_record (record_in old k)) r.stamp ≡ false
+    → MatchBool (stamp_lt r.stamp (stamp_of_record (record_in old k))) (AddsOld old new k r.stamp) (SameRows old new) → W' ≡ W → RowsServe new W' (asks.Update client op k r ∷ before)
 serves-refused old new W W' before client op k r s below rows watches =
     let R : List ℕ → Option RecordValue = λ key. record_in old key in
     let L : List ℕ → Timestamp → Bool = λ key t. has_stamp (olds_in old key) t in
-    let done : ((key : List ℕ) → record_in new key ≡ record_in old key) → ((key : List ℕ) (t : Timestamp) → has_stamp (olds_in new key) t ≡ ((key_eq k key && outdates (record_in old k) r.stamp t) || has_stamp (olds_in old key) t)) → Serves new W' (asks.Update client op k r ∷ before) =
-    λ records olds. subst (λ (ws : List Watcher). Serves new ws (asks.Update client op k r ∷ before)) (sym watches) (stands-refused R L W before s client op k r (λ key. record_in new key) (λ key t. has_stamp (olds_in new key) t) below records olds) in
-    let unchanged : SameRows old new → ((t : Timestamp) → outdates (record_in old k) r.stamp t ≡ false) → Serves new W' (asks.Update client op k r ∷ before) =
+    let done : ((key : List ℕ) → record_in new key ≡ record_in old key) → ((key : List ℕ) (t : Timestamp) → has_stamp (olds_in new key) t ≡ ((key_eq k key && outdates (record_in old k) r.stamp t) || has_stamp (olds_in old key) t)) → RowsServe new W' (asks.Update client op k r ∷ before) =
+    λ records olds. subst (λ (ws : List Watcher). RowsServe new ws (asks.Update client op k r ∷ before)) (sym watches) (stands-refused R L W before s client op k r (λ key. record_in new key) (λ key t. has_stamp (olds_in new key) t) below records olds) in
+    let unchanged : SameRows old new → ((t : Timestamp) → outdates (record_in old k) r.stamp t ≡ false) → RowsServe new W' (asks.Update client op k r ∷ before) =
     λ same none. done (same-record old new same) (λ key t. same-olds old new same key t ∙ nothing-out (key_eq k key) (has_stamp (olds_in old key) t) ∙ ap (λ (b : Bool). (key_eq k key && b) || has_stamp (olds_in old key) t) (sym (none t))) in
     elim (cases_row (row_of old k)) [
       | inl absent ↦
@@ -197,12 +202,12 @@ serves-refused old new W W' before client op k r s below rows watches =
           ]
     ]
 
-pub serves-forget : (old new : List Row) (W : List Watcher) (before : List MetaAsk) (client op : ℕ) (k : List ℕ) (stamps : List Timestamp) → Serves old W before
-    → MatchOption (row_of old k) (SameRows old new) (λ row. PutsRow old new k (record row { olds = filter (λ stamp. not (has_stamp stamps stamp)) row.olds })) → Serves new W (asks.Forget client op k stamps ∷ before)
+pub serves-forget : (old new : List Row) (W : List Watcher) (before : List MetaAsk) (client op : ℕ) (k : List ℕ) (stamps : List Timestamp) → RowsServe old W before
+    → MatchOption (row_of old k) (SameRows old new) (λ row. PutsRow old new k (record row { olds = filter (λ stamp. not (has_stamp stamps stamp)) row.olds })) → RowsServe new W (asks.Forget client op k stamps ∷ before)
 serves-forget old new W before client op k stamps s rows =
     let R : List ℕ → Option RecordValue = λ key. record_in old key in
     let L : List ℕ → Timestamp → Bool = λ key t. has_stamp (olds_in old key) t in
-    let done : ((key : List ℕ) → record_in new key ≡ record_in old key) → ((key : List ℕ) (t : Timestamp) → has_stamp (olds_in new key) t ≡ (not (key_eq k key && has_stamp stamps t) && has_stamp (olds_in old key) t)) → Serves new W (asks.Forget client op k stamps ∷ before) =
+    let done : ((key : List ℕ) → record_in new key ≡ record_in old key) → ((key : List ℕ) (t : Timestamp) → has_stamp (olds_in new key) t ≡ (not (key_eq k key && has_stamp stamps t) && has_stamp (olds_in old key) t)) → RowsServe new W (asks.Forget client op k stamps ∷ before) =
     λ records olds. stands-forget R L W before s client op k stamps (λ key. record_in new key) (λ key t. has_stamp (olds_in new key) t) records olds in
     elim (cases_row (row_of old k)) [
       | inl absent ↦
@@ -218,10 +223,10 @@ serves-forget old new W before client op k stamps s rows =
           done (kept-record old new k row kept there.1 puts) (λ key t. puts-olds old new k (record row { olds = kept }) puts key t ∙ forgets-at k key (λ x. has_stamp (olds_in old x) t) (has_stamp kept t) (has_stamp stamps t) (left t))
     ]
 
-pub serves-empty : (rows : List Row) (W : List Watcher) → rows ≡ [] → W ≡ [] → Serves rows W []
+pub serves-empty : (rows : List Row) (W : List Watcher) → rows ≡ [] → W ≡ [] → RowsServe rows W []
 serves-empty rows W no_rows no_watches = rw (no_rows, no_watches) serves-new
 
-pub serves-same : (old new : List Row) (W W' : List Watcher) (before : List MetaAsk) → SameRows old new → W' ≡ W → Serves old W before → Serves new W' before
+pub serves-same : (old new : List Row) (W W' : List Watcher) (before : List MetaAsk) → SameRows old new → W' ≡ W → RowsServe old W before → RowsServe new W' before
 serves-same old new W W' before same watches s =
     stands-same (λ key. record_in old key) (λ key t. has_stamp (olds_in old key) t) W before s (λ key. record_in new key) (λ key t. has_stamp (olds_in new key) t) W' (same-record old new same) (same-olds old new same) watches
 

@@ -12,7 +12,8 @@ use Rattle.hy_record.specs.Stamp.{Timestamp, stamp_lt}
 use Rattle.hy_record.specs.Record.{RecordValue}
 use Rattle.hy_meta.specs.declared.watcher.Watcher.{Watcher}
 use Rattle.hy_meta.specs.Service.{stamp_of_record, record_after, record_stamp}
-use Rattle.hy_meta.specs.Watches.{watches_of, is_passed, fired_watches, is_waiting, fired, service_answers}
+use Rattle.hy_meta.specs.Watches.{watches_of, is_passed, fired_watches, is_waiting, fired}
+use Rattle.hy_meta.specs.Meta.{service_answers}
 use Rattle.hy_meta.specs.Held.{is_due}
 use Rattle.hy_meta.specs.Run.{answers_of, watcher_eq, tells_of}
 use Rattle.hy_meta.proofs.Rising.{cases_bool}

@@ -13,7 +13,8 @@ use Rattle.hy_record.specs.Record.{RecordValue}
 use Rattle.hy_record.proofs.Order.{key_eq-true, key_eq-same, stamp_eq-true, stamp_eq-same, stamp_lt-trans}
 use Rattle.hy_meta.specs.declared.watcher.Watcher.{Watcher}
 use Rattle.hy_meta.specs.Service.{stamp_of_record, record_after, record_stamp, outdates, has_stamp, is_old, known_stamps, old_list}
-use Rattle.hy_meta.specs.Watches.{watches_of, is_passed, fired_watches, is_waiting, fired, service_answers, StandsFor}
+use Rattle.hy_meta.specs.Watches.{watches_of, is_passed, fired_watches, is_waiting, fired}
+use Rattle.hy_meta.specs.Meta.{service_answers, StandsFor}
 use Rattle.hy_meta.specs.Held.{is_due}
 use Rattle.hy_meta.proofs.Rising.{cases_bool, both, rising-insert, rising-filter, rising-same, has_stamp-insert, has_stamp-filter}
 

@@ -1,5 +1,6 @@
 pub mod Service
 pub mod Watches
+pub mod Meta
 pub mod Sessions
 pub mod Rows
 pub mod Held

@@ -1,5 +1,5 @@
 -- What was served and answered so far: which update a record is of, and who a message is for.
-use Rattle.std.specs.Prelude.{◌≡◌, ℕ, Bool, true, false, ◌&&◌, ◌==◌, ◌⊎◌, List, [], ◌∷◌, ◌++◌, filter, Contains}
+use Rattle.std.specs.Prelude.{◌≡◌, ℕ, Bool, true, false, ◌&&◌, ◌==◌, ◌⊎◌, List, [], ◌∷◌, ◌++◌, count_by, Contains}
 use Rattle.hy_record.specs.declared.message.MetaAsk.{MetaAsk}
 use Rattle.hy_record.specs.declared.message.MetaAsk.TheVariants as asks
 use Rattle.hy_record.specs.declared.message.MetaSay.{MetaSay}
@@ -9,7 +9,8 @@ use Rattle.hy_record.specs.Key.{key_eq}
 use Rattle.hy_record.specs.Record.{RecordValue}
 use Rattle.hy_meta.specs.declared.watcher.Watcher.{Watcher}
 use Rattle.hy_meta.specs.Service.{record_stamp}
-use Rattle.hy_meta.specs.Watches.{watches_of, is_waiting, fired, service_answers}
+use Rattle.hy_meta.specs.Watches.{watches_of, waiting_watches, fired}
+use Rattle.hy_meta.specs.Meta.{service_answers}
 
 -- all messages that were sent in answer to these requests, oldest first
 unfoldable pub answers_of : List MetaAsk → List MetaSay
@@ -22,12 +23,25 @@ watcher_eq a b = a.client == b.client && a.op == b.op && key_eq a.key b.key && s
 
 -- the message tells of the watch
 unfoldable pub tells_of : Watcher → MetaSay → Bool
-tells_of w (says.Fired client op key stamp) = watcher_eq w (record { client = client; op = op; key = key; stamp = stamp })
-tells_of w (says.Has client op key r) = false
-tells_of w (says.Applied client op key stamp) = false
-tells_of w (says.Kept client op key stamp) = false
-tells_of w (says.OldList client op key stamps) = false
-tells_of w (says.Forgot client op key) = false
+tells_of w (says.Fired client op key stamp) =
+    watcher_eq w (record { client = client; op = op; key = key; stamp = stamp })
+tells_of w _ = false
+
+-- how often the watch stands in the list
+abbrev pub times_in : Watcher → List Watcher → ℕ
+times_in w watches = count_by (λ v. watcher_eq w v) watches
+
+-- how often these requests asked for the watch
+abbrev pub times_asked : List MetaAsk → Watcher → ℕ
+times_asked asks w = times_in w (watches_of asks)
+
+-- how often it waits after them
+abbrev pub times_waiting : List MetaAsk → Watcher → ℕ
+times_waiting asks w = times_in w (waiting_watches asks)
+
+-- how often an answer to them told of it
+abbrev pub times_fired : List MetaAsk → Watcher → ℕ
+times_fired asks w = count_by (λ say. tells_of w say) (answers_of asks)
 
 -- the record is that of an update of the key that was served, and was above the record before it
 pub record IsOfUpdate (all : List MetaAsk) (key : List ℕ) (r : RecordValue) : Type 0 where
@@ -63,4 +77,5 @@ addressee_of (says.Forgot client op key) = record { client = client; op = op; ke
 
 -- the message is for the operation that asked, or tells of a watch that was waiting
 abbrev pub IsAddressed : List MetaAsk → MetaAsk → MetaSay → Type 0
-IsAddressed before ask say = (addressee_of say ≡ asker_of ask) ⊎ ((w : Watcher) × Contains (filter (λ v. is_waiting before v) (watches_of before)) w × (say ≡ fired w))
+IsAddressed before ask say =
+    (addressee_of say ≡ asker_of ask) ⊎ ((w : Watcher) × Contains (waiting_watches before) w × (say ≡ fired w))

@@ -4,7 +4,7 @@ ghost use Rattle.std.specs.Prelude.{◌≡◌, ◌∷◌, ℕ, List, All, IfOk, 
 ghost use Rattle.std.specs.Option.{option_copied};
 ghost use Rattle.hy_record.specs.declared.message.MetaAsk.{MetaAsk};
 ghost use Rattle.hy_meta.specs.Service.{record_after, is_old};
-ghost use Rattle.hy_meta.specs.Watches.{service_answers};
+ghost use Rattle.hy_meta.specs.Meta.{service_answers};
 ghost use Rattle.hy_meta.specs.Run.{IsAddressed};
 ghost use Rattle.hy_meta.specs.Sessions.{next_session, sessions_after};
 
@@ -34,15 +34,18 @@ pub trait Meta {
 
     /// Serves a request, and answers it: the messages, in the order in which they are to be sent.
     fn serve(&mut self, alloc: Global, ask: &MetaAsk) -> Result<Vec<MetaSay>, NoMemory>
-        ensures says { IfOk result (λ says. (asks : List MetaAsk) → served self.old asks → says.items ≡ service_answers asks ask.now) }
-        ensures addressed { IfOk result (λ says. (asks : List MetaAsk) → served self.old asks → All (IsAddressed asks ask.now) says.items) }
+        ensures says { IfOk result (λ says. (asks : List MetaAsk) →
+            served self.old asks → says.items ≡ service_answers asks ask.now) }
+        ensures addressed { IfOk result (λ says. (asks : List MetaAsk) →
+            served self.old asks → All (IsAddressed asks ask.now) says.items) }
         ensures ok { OnOk result ((asks : List MetaAsk) → served self.old asks → served self.new (ask.now ∷ asks)) }
         ensures err { OnErr result ((asks : List MetaAsk) → served self.old asks → served self.new asks) }
         ensures given { given self.new ≡ given self.old };
 
     /// The record of the key.
     fn current(&self, key: &Key) -> Option<&Record>
-        ensures { (asks : List MetaAsk) → served self.now asks → option_copied result ≡ record_after asks key.now };
+        ensures { (asks : List MetaAsk) →
+            served self.now asks → option_copied result ≡ record_after asks key.now };
 
     /// Whether the timestamp of the key is superseded and not forgotten.
     fn is_old(&self, key: &Key, stamp: Stamp) -> bool

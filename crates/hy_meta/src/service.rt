@@ -9,11 +9,11 @@ ghost use Rattle.hy_record.specs.Stamp.{stamp_lt};
 ghost use Rattle.hy_meta.specs.Service.{is_old};
 ghost use Rattle.hy_meta.specs.Watches.{fired};
 ghost use Rattle.hy_meta.specs.Rows.{row_of, PutsRow, SameRows, AddsOld, superseded};
-ghost use Rattle.hy_meta.specs.Held.{Serves, Says, GoesOn, is_due};
+ghost use Rattle.hy_meta.specs.Meta.{Says, GoesOn};
+ghost use Rattle.hy_meta.specs.Held.{Serves, is_due};
 
 use crate::meta::{Meta, SessionsFull};
-use crate::rows;
-use crate::rows::Row;
+use crate::rows::Rows;
 use crate::watcher::Watcher;
 use hy_base::{MAX_SESSIONS, NoMemory};
 use hy_record::{Key, MetaAsk, MetaSay, Record, Stamp, Stamps};
@@ -23,7 +23,7 @@ use std::alloc::Global;
 #[derive(Debug, Drop)]
 pub struct Service {
     given: u32,
-    rows: Vec<Row>,
+    rows: Rows,
     watches: Vec<Watcher>,
 }
 
@@ -35,16 +35,16 @@ impl Service {
     {
         Ok(Service {
             given: 0,
-            rows: Vec::new(alloc),
+            rows: Rows::new(alloc),
             watches: Vec::new(alloc),
         })
     }
 
     /// What a read is answered.
     fn read(&self, alloc: Global, client: u32, op: u32, key: &Key) -> Result<Vec<MetaSay>, NoMemory>
-        ensures { Says (Serves self.now.rows.items self.now.watches.items) (asks.Read client op key.now) result }
+        ensures { Says (Serves self.now) (asks.Read client op key.now) result }
     {
-        let rec = rows::copied(alloc, &self.rows, key)?;
+        let rec = self.rows.copied(alloc, key)?;
         let key = *key;
         one(
             alloc,
@@ -66,11 +66,11 @@ impl Service {
         key: &Key,
         rec: &Record,
     ) -> Result<Vec<MetaSay>, NoMemory>
-        ensures says { Says (Serves self.old.rows.items self.old.watches.items) (asks.Update client op key.now rec.now) result }
-        ensures goes_on { GoesOn (Serves self.old.rows.items self.old.watches.items) (Serves self.new.rows.items self.new.watches.items) (asks.Update client op key.now rec.now) result }
+        ensures says { Says (Serves self.old) (asks.Update client op key.now rec.now) result }
+        ensures goes_on { GoesOn (Serves self.old) (Serves self.new) (asks.Update client op key.now rec.now) result }
         ensures given { self.new.given ≡ self.old.given }
     {
-        let held = rows::held_stamp(&self.rows, key);
+        let held = self.rows.held_stamp(key);
         let stamp = rec.stamp();
         if held.is_below(&stamp) {
             self.apply(alloc, client, op, key, rec)
@@ -88,11 +88,11 @@ impl Service {
         key: &Key,
         stamp: Stamp,
     ) -> Result<Vec<MetaSay>, NoMemory>
-        ensures says { Says (Serves self.old.rows.items self.old.watches.items) (asks.Watch client op key.now stamp) result }
-        ensures goes_on { GoesOn (Serves self.old.rows.items self.old.watches.items) (Serves self.new.rows.items self.new.watches.items) (asks.Watch client op key.now stamp) result }
+        ensures says { Says (Serves self.old) (asks.Watch client op key.now stamp) result }
+        ensures goes_on { GoesOn (Serves self.old) (Serves self.new) (asks.Watch client op key.now stamp) result }
         ensures given { self.new.given ≡ self.old.given }
     {
-        let reached = rows::held_stamp(&self.rows, key);
+        let reached = self.rows.held_stamp(key);
         let watcher = Watcher {
             client,
             op,
@@ -108,9 +108,9 @@ impl Service {
 
     /// What a request for the superseded timestamps is answered.
     fn olds(&self, alloc: Global, client: u32, op: u32, key: &Key) -> Result<Vec<MetaSay>, NoMemory>
-        ensures { Says (Serves self.now.rows.items self.now.watches.items) (asks.Olds client op key.now) result }
+        ensures { Says (Serves self.now) (asks.Olds client op key.now) result }
     {
-        let stamps = rows::least_olds(alloc, &self.rows, key)?;
+        let stamps = self.rows.least_olds(alloc, key)?;
         let key = *key;
         one(
             alloc,
@@ -132,8 +132,8 @@ impl Service {
         key: &Key,
         stamps: &Stamps,
     ) -> Result<Vec<MetaSay>, NoMemory>
-        ensures says { Says (Serves self.old.rows.items self.old.watches.items) (asks.Forget client op key.now stamps.now) result }
-        ensures goes_on { GoesOn (Serves self.old.rows.items self.old.watches.items) (Serves self.new.rows.items self.new.watches.items) (asks.Forget client op key.now stamps.now) result }
+        ensures says { Says (Serves self.old) (asks.Forget client op key.now stamps.now) result }
+        ensures goes_on { GoesOn (Serves self.old) (Serves self.new) (asks.Forget client op key.now stamps.now) result }
         ensures given { self.new.given ≡ self.old.given }
     {
         let forgot = MetaSay::Forgot {
@@ -142,7 +142,7 @@ impl Service {
             key: *key,
         };
         let says = one(alloc, forgot)?;
-        rows::remove_olds(&mut self.rows, key, stamps.items());
+        self.rows.remove_olds(key, stamps.items());
         Ok(says)
     }
 
@@ -155,16 +155,21 @@ impl Service {
         key: &Key,
         rec: &Record,
     ) -> Result<Vec<MetaSay>, NoMemory>
-        ensures says { IfOk result (λ sent. sent.items ≡ says.Applied client op key.now rec.now.stamp ∷ map fired (filter (λ w. is_due key.now rec.now.stamp w) self.old.watches.items)) }
-        ensures rows { OnOk result (PutsRow self.old.rows.items self.new.rows.items key.now (superseded (row_of self.old.rows.items key.now) key.now rec.now)) }
-        ensures watches { OnOk result (self.new.watches.items ≡ filter (λ w. not (is_due key.now rec.now.stamp w)) self.old.watches.items) }
-        ensures err { OnErr result (SameRows self.old.rows.items self.new.rows.items × (self.new.watches.items ≡ self.old.watches.items)) }
+        ensures says { IfOk result (λ sent. sent.items
+            ≡ says.Applied client op key.now rec.now.stamp
+            ∷ map fired (filter (λ w. is_due key.now rec.now.stamp w) self.old.watches.items)) }
+        ensures rows { OnOk result (PutsRow self.old.rows self.new.rows key.now
+            (superseded (row_of self.old.rows key.now) key.now rec.now)) }
+        ensures watches { OnOk result (self.new.watches.items
+            ≡ filter (λ w. not (is_due key.now rec.now.stamp w)) self.old.watches.items) }
+        ensures rows_stay { OnErr result (SameRows self.old.rows self.new.rows) }
+        ensures watches_stay { OnErr result (self.new.watches.items ≡ self.old.watches.items) }
         ensures given { self.new.given ≡ self.old.given }
     {
         let stamp = rec.stamp();
         let says = applied(alloc, client, op, key, stamp, &self.watches)?;
         let newer = rec.copy(alloc)?;
-        rows::put(&mut self.rows, alloc, key, newer)?;
+        self.rows.put(alloc, key, newer)?;
         retain_others(&mut self.watches, key, &stamp);
         Ok(says)
     }
@@ -180,8 +185,10 @@ impl Service {
         stamp: Stamp,
     ) -> Result<Vec<MetaSay>, NoMemory>
         ensures says { IfOk result (λ sent. sent.items ≡ says.Kept client op key.now held ∷ []) }
-        ensures rows { OnOk result (MatchBool (stamp_lt stamp held) (AddsOld self.old.rows.items self.new.rows.items key.now stamp) (SameRows self.old.rows.items self.new.rows.items)) }
-        ensures err { OnErr result (SameRows self.old.rows.items self.new.rows.items) }
+        ensures rows { OnOk result (MatchBool (stamp_lt stamp held)
+            (AddsOld self.old.rows self.new.rows key.now stamp)
+            (SameRows self.old.rows self.new.rows)) }
+        ensures err { OnErr result (SameRows self.old.rows self.new.rows) }
         ensures watches { self.new.watches.items ≡ self.old.watches.items }
         ensures given { self.new.given ≡ self.old.given }
     {
@@ -193,7 +200,7 @@ impl Service {
         };
         let says = one(alloc, kept)?;
         if stamp.is_below(&held) {
-            rows::add_old(&mut self.rows, key, stamp)?;
+            self.rows.add_old(key, stamp)?;
         }
         Ok(says)
     }
@@ -215,7 +222,8 @@ fn applied(
     stamp: Stamp,
     watches: &[Watcher],
 ) -> Result<Vec<MetaSay>, NoMemory>
-    ensures { IfOk result (λ sent. sent.items ≡ says.Applied client op key.now stamp ∷ map fired (filter (λ w. is_due key.now stamp w) watches.now)) }
+    ensures { IfOk result (λ sent. sent.items
+        ≡ says.Applied client op key.now stamp ∷ map fired (filter (λ w. is_due key.now stamp w) watches.now)) }
 {
     let first = MetaSay::Applied {
         client,
@@ -243,7 +251,7 @@ fn one(alloc: Global, say: MetaSay) -> Result<Vec<MetaSay>, NoMemory>
 }
 
 impl Meta for Service {
-    ghost served = { λ service asks. Serves service.rows.items service.watches.items asks };
+    ghost served = { Serves };
 
     ghost given = { λ service. service.given };
 
@@ -281,12 +289,12 @@ impl Meta for Service {
     }
 
     fn current(&self, key: &Key) -> Option<&Record> {
-        let row = rows::find(&self.rows, key)?;
+        let row = self.rows.find(key)?;
         Some(&row.rec)
     }
 
     fn is_old(&self, key: &Key, stamp: Stamp) -> bool {
-        match rows::find(&self.rows, key) {
+        match self.rows.find(key) {
             Some(row) => row.olds.has(&stamp),
             None => false,
         }

@@ -10,7 +10,7 @@ use Rattle.hy_record.specs.Stamp.{Timestamp}
 use Rattle.hy_base.specs.Shape.{IsShape}
 use Rattle.hy_record.specs.Clouds.{clouds_of}
 use Rattle.hy_record.specs.Record.{RecordValue}
-use Rattle.hy_meta.specs.Watches.{service_answers}
+use Rattle.hy_meta.specs.Meta.{service_answers}
 use Rattle.hy_record.specs.declared.turn.Cue.{Cue}
 use Rattle.hy_record.specs.declared.turn.Out.{Out}
 use Rattle.hy_record.specs.declared.turn.Out.TheVariants as outs

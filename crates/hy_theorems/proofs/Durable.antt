@@ -12,7 +12,7 @@ use Rattle.hy_record.specs.declared.turn.Cue.{Cue}
 use Rattle.hy_record.specs.declared.turn.Out.{Out}
 use Rattle.hy_record.specs.declared.turn.Out.TheVariants as outs
 use Rattle.hy_record.specs.declared.message.MetaSay.{MetaSay}
-use Rattle.hy_meta.specs.Watches.{service_answers}
+use Rattle.hy_meta.specs.Meta.{service_answers}
 use Rattle.hy_record.specs.declared.cloud.CloudAct.{CloudAct}
 use Rattle.hy_record.specs.declared.cloud.CloudAct.TheVariants.{Put, Get, Delete}
 use Rattle.hy_record.specs.declared.cloud.CloudAsk.{CloudAsk}

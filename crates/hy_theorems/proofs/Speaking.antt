@@ -16,7 +16,8 @@ use Rattle.hy_record.specs.Record.{RecordValue}
 use Rattle.hy_record.proofs.Order.{key_eq-true}
 use Rattle.hy_meta.specs.declared.watcher.Watcher.{Watcher}
 use Rattle.hy_meta.specs.Service.{stamp_of_record, record_after, record_stamp, is_old, known_stamps, old_list}
-use Rattle.hy_meta.specs.Watches.{service_answers, fired, watches_of, is_passed, fired_watches}
+use Rattle.hy_meta.specs.Watches.{fired, watches_of, is_passed, fired_watches}
+use Rattle.hy_meta.specs.Meta.{service_answers}
 use Rattle.hy_meta.proofs.Lasting.{update-own}
 use Rattle.hy_meta.proofs.Rising.{cases_bool, both}
 use Rattle.hy_record.specs.declared.turn.Cue.{Cue}

@@ -7,7 +7,7 @@ use Rattle.hy_record.specs.declared.turn.Out.{Out}
 use Rattle.hy_record.specs.declared.turn.Out.TheVariants as outs
 use Rattle.hy_record.specs.declared.cloud.CloudAsk.{CloudAsk}
 use Rattle.hy_record.specs.declared.cloud.CloudReply.{CloudReply}
-use Rattle.hy_meta.specs.Watches.{service_answers}
+use Rattle.hy_meta.specs.Meta.{service_answers}
 use Rattle.hy_protocol.specs.Operations.{sends_of}
 use Rattle.hy_protocol.specs.Cloud.{cloud_answer}
 use Rattle.hy_trace.specs.Deeds.{Params, Deed, Joined, Began, Handed, Served, Granted, Stopped, Nothing, Start, served, granted, inputs_of, start_of}

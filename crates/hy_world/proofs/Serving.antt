@@ -12,7 +12,7 @@ use Rattle.hy_record.specs.declared.turn.Cue.{Cue}
 use Rattle.hy_record.specs.declared.turn.Cue.TheVariants as cues
 use Rattle.hy_protocol.specs.Session.{Session, fresh_session}
 use Rattle.hy_meta.specs.Sessions.{next_session, sessions_after}
-use Rattle.hy_meta.specs.Watches.{service_answers}
+use Rattle.hy_meta.specs.Meta.{service_answers}
 use Rattle.hy_meta.specs.declared.meta.SessionsFull.{SessionsFull}
 use Rattle.hy_cloud.specs.declared.cloud.Cloud.{Cloud}
 use Rattle.hy_trace.specs.declared.step.Step.TheVariants as steps

@@ -4,7 +4,8 @@ use Rattle.hy_record.specs.Stamp.{stamp_lt, stamp_eq}
 use Rattle.hy_record.specs.Key.{key_eq}
 use Rattle.hy_record.specs.Clouds.{clouds_of}
 use Rattle.hy_meta.specs.Service.{record_after, record_stamp, is_old, known_stamps, old_list, insert_stamp, outdates, has_stamp}
-use Rattle.hy_meta.specs.Watches.{service_answers, fired_watches, watches_of, is_passed}
+use Rattle.hy_meta.specs.Watches.{fired_watches, watches_of, is_passed}
+use Rattle.hy_meta.specs.Meta.{service_answers}
 use Rattle.hy_protocol.specs.Inputs.{addresses}
 use Rattle.hy_protocol.specs.Write.{first_has, since_has, own_stamp, acknowledging_clouds, value_record, hashes_of, record_with, record_at, update_of, write_reply_at, write_reply, write_sends}
 use Rattle.hy_protocol.specs.Read.{version_of, first_valid, valid_picks, failed_clouds, timeouts, failed_attempts, answer_for, read_reply, read_sends, refresh_count}
