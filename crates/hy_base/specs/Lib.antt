@@ -5,3 +5,10 @@ pub mod Source
 pub mod Sink
 pub mod MemorySource
 pub mod MemorySink
+pub mod Moves
+pub mod Net
+pub mod Play
+pub mod Script
+pub mod Pieces
+pub mod Outbox
+pub mod NetTape

@@ -2,6 +2,7 @@
 #![tactic(auto)]
 
 mod adapters;
+mod arrival;
 mod blob;
 mod calls;
 mod failure;
@@ -9,7 +10,13 @@ mod fault;
 mod limits;
 mod memory_sink;
 mod memory_source;
+mod net;
+mod net_call;
+mod net_script;
+mod net_tape;
 mod numbers;
+mod outbox;
+mod pieces;
 mod reading;
 mod shape;
 mod sink;
@@ -17,6 +24,7 @@ mod source;
 mod writing;
 
 pub use adapters::{ReadSource, WriteSink};
+pub use arrival::{Arrival, Arrived};
 pub use blob::Blob;
 pub use failure::{Failed, NoMemory};
 pub use fault::{Cause, TextError, TextFault};
@@ -26,6 +34,9 @@ pub use limits::{
 };
 pub use memory_sink::BytesOut;
 pub use memory_source::BytesIn;
+pub use net::Net;
+pub use net_call::NetCall;
+pub use net_tape::NetTape;
 pub use numbers::Numbers;
 pub use reading::{ReadAllFault, read_all};
 pub use shape::{cloud_count, fragment_size, quorum_size};

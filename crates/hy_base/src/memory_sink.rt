@@ -6,7 +6,7 @@ ghost use Rattle.hy_base.specs.Faults.{HasCause};
 ghost use Rattle.hy_base.specs.Sink.{WritesSome};
 ghost use Rattle.hy_base.specs.MemorySink.{fresh_output, output_after, RefusesPiece};
 
-use crate::calls::Calls;
+use crate::calls::{Calls, fault};
 use crate::failure::{Failed, NoMemory};
 use crate::sink::Sink;
 use std::alloc::Global;
@@ -18,6 +18,7 @@ pub struct BytesOut {
     bytes: Vec<u8>,
     room: usize,
     calls: Calls,
+    faults: u64,
 }
 
 impl Model for BytesOut {
@@ -31,7 +32,7 @@ impl Model for BytesOut {
       room = output.room;
       failing = output.calls.failing.items;
       calls = output.calls.made;
-      faults = output.calls.faults;
+      faults = output.faults;
     } };
 
     ghost invariant = { λ output.
@@ -50,6 +51,7 @@ impl BytesOut {
             bytes,
             room,
             calls: Calls::new(failing),
+            faults: 0,
         })
     }
 
@@ -76,9 +78,8 @@ impl Sink for BytesOut {
         ensures whole { IfOk result (λ count. count ≡ length piece.now) }
         ensures after { self.new ≡ output_after self.old piece.now result }
     {
-        self.calls.begin()?;
-        if piece.len() > self.room - self.bytes.len() {
-            return Err(self.calls.fault());
+        if self.calls.next_fails() || piece.len() > self.room - self.bytes.len() {
+            return Err(fault(&mut self.faults));
         }
         self.bytes.extend_from_slice(piece).unwrap();
         Ok(piece.len())

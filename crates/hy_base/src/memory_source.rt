@@ -7,7 +7,7 @@ ghost use Rattle.hy_base.specs.Source.{ReadsAtMost};
 ghost use Rattle.hy_base.specs.MemorySource.{fresh_input, given_count, input_after};
 
 use crate::blob::Blob;
-use crate::calls::Calls;
+use crate::calls::{Calls, fault};
 use crate::failure::Failed;
 use crate::source::Source;
 use std::marker::Model;
@@ -19,6 +19,7 @@ pub struct BytesIn {
     at: usize,
     cut: usize,
     calls: Calls,
+    faults: u64,
 }
 
 impl Model for BytesIn {
@@ -32,7 +33,7 @@ impl Model for BytesIn {
       cut = input.cut;
       failing = input.calls.failing.items;
       calls = input.calls.made;
-      faults = input.calls.faults;
+      faults = input.faults;
     } };
 
     ghost invariant = { λ input. (input.at ≤ length input.bytes) × (1 ≤ input.cut) };
@@ -51,6 +52,7 @@ impl BytesIn {
             at: 0,
             cut,
             calls: Calls::new(failing),
+            faults: 0,
         }
     }
 }
@@ -68,7 +70,9 @@ impl Source for BytesIn {
         ensures gives { IfOk result (λ count. count ≡ given_count self.old (length buf.old)) }
         ensures after { self.new ≡ input_after self.old result }
     {
-        self.calls.begin()?;
+        if self.calls.next_fails() {
+            return Err(fault(&mut self.faults));
+        }
         let rest = &self.bytes.bytes()[self.at..];
         let count = self.cut.min(buf.len().min(rest.len()));
         buf[..count].copy_from_slice(&rest[..count]);

@@ -1,4 +1,5 @@
 mod ends;
+mod net;
 
 use super::*;
 use std::test::Fail;
