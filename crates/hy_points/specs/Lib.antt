@@ -1,0 +1,6 @@
+pub mod Lookups
+pub mod Atomic
+pub mod Marks
+pub mod Orders
+pub mod Index
+pub mod Stamps
