@@ -13,7 +13,7 @@ use Rattle.hy_record.specs.declared.message.MetaAsk.TheVariants as asks
 use Rattle.hy_record.specs.declared.turn.Cue.{Cue}
 use Rattle.hy_record.specs.Record.{RecordValue}
 use Rattle.hy_record.specs.Stamp.{Timestamp, stamp_lt}
-use Rattle.hy_meta.specs.Service.{stamp_of_record}
+use Rattle.hy_meta.specs.Service.{stamp_of_record, record_stamp}
 use Rattle.hy_meta.proofs.Rising.{cases_bool, both}
 use Rattle.hy_protocol.specs.Inputs.{has_of}
 use Rattle.hy_protocol.specs.Operations.{replied}
@@ -22,21 +22,24 @@ use Rattle.hy_protocol.specs.Write.{first_has, write_reply}
 use Rattle.hy_protocol.specs.Collect.{collect_reply}
 use Rattle.hy_trace.specs.Deeds.{Params, Deed, Joined, Began, Handed, Served, Granted, Stopped, Nothing, Start, served, inputs_of, start_of, start_at, reply_after, reply_of}
 use Rattle.hy_trace.specs.History.{Return, return_of}
-use Rattle.hy_trace.specs.Points.{version_made, newer_made, was_applied}
+use Rattle.hy_trace.specs.Points.{Update, update_by, passing, first_update, is_own, version_made, newer_made, was_applied}
 use Rattle.hy_trace.specs.Trace.{IsTrace, IsIdle, Awaits}
 use Rattle.hy_trace.proofs.Growth.{or-none}
 use Rattle.hy_theorems.proofs.RealTime.{return-reply}
+use Rattle.hy_log.specs.declared.course.FirstUpdate.{FirstUpdate}
 use Rattle.hy_log.specs.declared.course.Returned.{Returned}
 use Rattle.hy_log.specs.declared.course.Course.{Course}
 use Rattle.hy_log.specs.declared.course.News.TheVariants.{Heard, Replied}
 use Rattle.hy_log.specs.Effects.{return_with, return_at, heard_with, heard_at, updated_by, updated_at}
-use Rattle.hy_log.specs.Courses.{fresh, noted, noted_by, note_of_heard, note_of_return, note_of_update, kept_return, version_stamp, course_of}
+use Rattle.hy_log.specs.Courses.{fresh, noted, noted_by, note_of_heard, note_of_return, note_of_update, kept_return, kept_update, version_stamp, earlier_made, first_made, course_of}
 
-abbrev course : Option Returned → Option Timestamp → Option Timestamp → ℕ → Bool → Course
-course returned first version made is_applied = record { returned = returned; first = first; version = version; made = made; is_applied = is_applied }
+abbrev course : Option Returned → Option Timestamp → ℕ → Option Timestamp → ℕ → Option FirstUpdate → Bool → Course
+course returned first first_made version made updated is_applied =
+    record { returned = returned; first = first; first_made = first_made; version = version; made = made; updated = updated; is_applied = is_applied }
 
-course-same : (r q : Option Returned) (f g v w : Option Timestamp) (m n : ℕ) (x y : Bool) → r ≡ q → f ≡ g → v ≡ w → m ≡ n → x ≡ y → course r f v m x ≡ course q g w n y
-course-same r q f g v w m n x y a b d e h = cc
+course-same : (r q : Option Returned) (f g : Option Timestamp) (i j : ℕ) (v w : Option Timestamp) (m n : ℕ) (s u : Option FirstUpdate) (x y : Bool) →
+    r ≡ q → f ≡ g → i ≡ j → v ≡ w → m ≡ n → s ≡ u → x ≡ y → course r f i v m s x ≡ course q g j w n u y
+course-same r q f g i j v w m n s u x y a b d e h k l = cc
 
 -- ---- returns
 
@@ -89,15 +92,16 @@ no-reply-after p c o (Some s) = no-reply p c o s.action
 
 -- ---- the deeds that change no course
 
-unchanged : (p : Params) (c o : ℕ) (d : Deed) (t : List Deed) → inputs_of c o (d ∷ t) ≡ inputs_of c o t → version_made c o (d ∷ t) ≡ version_made c o t →
-    was_applied (served (d ∷ t)) c o ≡ was_applied (served t) c o → reply_of p c o (d ∷ t) ≡ reply_of p c o t → course_of p (d ∷ t) c o ≡ course_of p t c o
+unchanged : (p : Params) (c o : ℕ) (d : Deed) (t : List Deed) → inputs_of c o (d ∷ t) ≡ inputs_of c o t → first_made c o (d ∷ t) ≡ first_made c o t → version_made c o (d ∷ t) ≡ version_made c o t →
+    first_update (is_own c o) (d ∷ t) ≡ first_update (is_own c o) t → was_applied (served (d ∷ t)) c o ≡ was_applied (served t) c o → reply_of p c o (d ∷ t) ≡ reply_of p c o t → course_of p (d ∷ t) c o ≡ course_of p t c o
 unfolding course_of
-unchanged p c o d t inputs made applied reply =
-    course-same _ _ _ _ _ _ _ _ _ _
+unchanged p c o d t inputs first made updates applied reply =
+    course-same _ _ _ _ _ _ _ _ _ _ _ _ _ _
     (ap (option_map kept_return) (return-same p c o d t reply))
     (ap (λ (x : List Cue). option_map stamp_of_record (first_has x)) inputs)
+    first
     (ap (λ (x : List Cue). option_map version_stamp (version_of x)) inputs)
-    made applied
+    made (ap (option_map kept_update) updates) applied
 
 reply-same : (p : Params) (c o : ℕ) (d : Deed) (t : List Deed) → inputs_of c o (d ∷ t) ≡ inputs_of c o t → start_of c o (d ∷ t) ≡ start_of c o t → reply_of p c o (d ∷ t) ≡ reply_of p c o t
 unfolding reply_of
@@ -123,22 +127,42 @@ began-reply p b n c o a t idle =
 
 -- ---- an update that is served
 
-updated-step : (p : Params) (c o : ℕ) (ask : MetaAsk) (t : List Deed) → course_of p (Served ask ∷ t) c o ≡ noted_by (note_of_update (updated_by ask (served t))) c o (course_of p t c o)
-unfolding course_of served inputs_of version_made was_applied
-updated-step p c o ask t = by ask (return-same p c o (Served ask) t (reply-same p c o (Served ask) t refl (started-same c o (Served ask) t refl)))
-  where
-    by : (x : MetaAsk) → return_of p c o (Served ask ∷ t) ≡ return_of p c o t →
-        course (option_map kept_return (return_of p c o (Served ask ∷ t))) (option_map stamp_of_record (first_has (inputs_of c o t))) (option_map version_stamp (version_of (inputs_of c o t))) (version_made c o t) (was_applied (x ∷ served t) c o)
-        ≡ noted_by (note_of_update (updated_by x (served t))) c o (course_of p t c o)
-    by (asks.Update b n k r) same =
-        elim (cases_bool ((b == c) && (n == o))) [
-          | inl own ↦ rw own (course-same _ _ _ _ _ _ _ _ _ _ (ap (option_map kept_return) same) refl refl refl refl)
-          | inr other ↦ rw other (course-same _ _ _ _ _ _ _ _ _ _ (ap (option_map kept_return) same) refl refl refl refl)
-        ]
-    by (asks.Read b n k) same = course-same _ _ _ _ _ _ _ _ _ _ (ap (option_map kept_return) same) refl refl refl refl
-    by (asks.Watch b n k s) same = course-same _ _ _ _ _ _ _ _ _ _ (ap (option_map kept_return) same) refl refl refl refl
-    by (asks.Olds b n k) same = course-same _ _ _ _ _ _ _ _ _ _ (ap (option_map kept_return) same) refl refl refl refl
-    by (asks.Forget b n k ss) same = course-same _ _ _ _ _ _ _ _ _ _ (ap (option_map kept_return) same) refl refl refl refl
+more-updated : (old : Option Update) (u : Update) → option_map kept_update (option_or old (Some u)) ≡ option_or (option_map kept_update old) (Some (kept_update u))
+more-updated None u = refl
+more-updated (Some v) u = refl
+
+none-updated : (old : Option Update) → option_map kept_update (option_or old None) ≡ option_map kept_update old
+none-updated old = ap (option_map kept_update) (or-none old)
+
+module _ (p : Params) (c o : ℕ) (t : List Deed) where
+  -- the course with these last three parts
+  abbrev updated_course : Option Returned → Option Update → Bool → Course
+  updated_course ret update applied =
+      course ret (option_map stamp_of_record (first_has (inputs_of c o t))) (first_made c o t) (option_map version_stamp (version_of (inputs_of c o t))) (version_made c o t) (option_map kept_update update) applied
+
+  not-updated : (ret : Option Return) → ret ≡ return_of p c o t → updated_course (option_map kept_return ret) (option_or (first_update (is_own c o) t) None) (was_applied (served t) c o) ≡ course_of p t c o
+  unfolding course_of
+  not-updated ret same = course-same _ _ _ _ _ _ _ _ _ _ _ _ _ _ (ap (option_map kept_return) same) refl refl refl refl (none-updated (first_update (is_own c o) t)) refl
+
+  by-request : (ask : MetaAsk) (ret : Option Return) → ret ≡ return_of p c o t →
+      updated_course (option_map kept_return ret) (option_or (first_update (is_own c o) t) (passing (is_own c o) (update_by ask t))) (was_applied (ask ∷ served t) c o)
+      ≡ noted_by (note_of_update (length t + 1) (updated_by ask (served t))) c o (course_of p t c o)
+  unfolding course_of was_applied
+  by-request (asks.Update b n k r) ret same =
+      elim (cases_bool ((b == c) && (n == o))) [
+        | inl own ↦
+            let u : Update = record { client = b; op = n; key = k; stamp = r.stamp; step = length t + 1; is_applied = stamp_lt (record_stamp (served t) k) r.stamp } in
+            rw own (course-same _ _ _ _ _ _ _ _ _ _ _ _ _ _ (ap (option_map kept_return) same) refl refl refl refl (more-updated (first_update (is_own c o) t) u) refl)
+        | inr other ↦ rw other (not-updated ret same)
+      ]
+  by-request (asks.Read b n k) ret same = not-updated ret same
+  by-request (asks.Watch b n k s) ret same = not-updated ret same
+  by-request (asks.Olds b n k) ret same = not-updated ret same
+  by-request (asks.Forget b n k ss) ret same = not-updated ret same
+
+  updated-step : (ask : MetaAsk) → course_of p (Served ask ∷ t) c o ≡ noted_by (note_of_update (length t + 1) (updated_by ask (served t))) c o (course_of p t c o)
+  unfolding course_of served inputs_of first_made version_made first_update
+  updated-step ask = by-request ask (return_of p c o (Served ask ∷ t)) (return-same p c o (Served ask) t (reply-same p c o (Served ask) t refl (started-same c o (Served ask) t refl)))
 
 -- ---- an input that is handed over
 
@@ -171,37 +195,37 @@ returned-other : (b n c o at : ℕ) (reply : Option Reply) (x : Course) → (b =
 returned-other b n c o at None x other = refl
 returned-other b n c o at (Some reply) x other = rw other refl
 
--- what it was told first, its version and where that was made
-after_has-is : (w : ℕ) (cue : Cue) (h : Option (Option RecordValue)) (a : Option (Option RecordValue)) (v : Option Version) (ret : Option Returned) (m : ℕ) (x : Bool) →
-    course ret (option_map stamp_of_record (option_or a h)) (option_map version_stamp (newer_version v cue h)) (newer_made v h w m) x
-    ≡ after_has w h (course ret (option_map stamp_of_record a) (option_map version_stamp v) m x)
-after_has-is w cue None None None ret m x = refl
-after_has-is w cue None None (Some v) ret m x = refl
-after_has-is w cue None (Some q) None ret m x = refl
-after_has-is w cue None (Some q) (Some v) ret m x = refl
-after_has-is w cue (Some r) None None ret m x = refl
-after_has-is w cue (Some r) (Some q) None ret m x = refl
-after_has-is w cue (Some r) None (Some v) ret m x = by (stamp_lt (stamp_of_record v.rec) (stamp_of_record r))
+-- what it was told first, its version, and where these were made
+after_has-is : (w : ℕ) (cue : Cue) (h : Option (Option RecordValue)) (a : Option (Option RecordValue)) (v : Option Version) (ret : Option Returned) (i m : ℕ) (s : Option FirstUpdate) (x : Bool) →
+    course ret (option_map stamp_of_record (option_or a h)) (earlier_made a h w i) (option_map version_stamp (newer_version v cue h)) (newer_made v h w m) s x
+    ≡ after_has w h (course ret (option_map stamp_of_record a) i (option_map version_stamp v) m s x)
+after_has-is w cue None None None ret i m s x = refl
+after_has-is w cue None None (Some v) ret i m s x = refl
+after_has-is w cue None (Some q) None ret i m s x = refl
+after_has-is w cue None (Some q) (Some v) ret i m s x = refl
+after_has-is w cue (Some r) None None ret i m s x = refl
+after_has-is w cue (Some r) (Some q) None ret i m s x = refl
+after_has-is w cue (Some r) None (Some v) ret i m s x = by (stamp_lt (stamp_of_record v.rec) (stamp_of_record r))
   where
-    by : (b : Bool) → course ret (Some (stamp_of_record r)) (option_map version_stamp (cond b (Some (record { rec = r; since = [] })) (Some (record { rec = v.rec; since = cue ∷ v.since })))) (cond b w m) x
-        ≡ course ret (Some (stamp_of_record r)) (cond b (Some (stamp_of_record r)) (Some (version_stamp v))) (cond b w m) x
+    by : (b : Bool) → course ret (Some (stamp_of_record r)) w (option_map version_stamp (cond b (Some (record { rec = r; since = [] })) (Some (record { rec = v.rec; since = cue ∷ v.since })))) (cond b w m) s x
+        ≡ course ret (Some (stamp_of_record r)) w (cond b (Some (stamp_of_record r)) (Some (version_stamp v))) (cond b w m) s x
     by true = refl
     by false = refl
-after_has-is w cue (Some r) (Some q) (Some v) ret m x = by (stamp_lt (stamp_of_record v.rec) (stamp_of_record r))
+after_has-is w cue (Some r) (Some q) (Some v) ret i m s x = by (stamp_lt (stamp_of_record v.rec) (stamp_of_record r))
   where
-    by : (b : Bool) → course ret (Some (stamp_of_record q)) (option_map version_stamp (cond b (Some (record { rec = r; since = [] })) (Some (record { rec = v.rec; since = cue ∷ v.since })))) (cond b w m) x
-        ≡ course ret (Some (stamp_of_record q)) (cond b (Some (stamp_of_record r)) (Some (version_stamp v))) (cond b w m) x
+    by : (b : Bool) → course ret (Some (stamp_of_record q)) i (option_map version_stamp (cond b (Some (record { rec = r; since = [] })) (Some (record { rec = v.rec; since = cue ∷ v.since })))) (cond b w m) s x
+        ≡ course ret (Some (stamp_of_record q)) i (cond b (Some (stamp_of_record r)) (Some (version_stamp v))) (cond b w m) s x
     by true = refl
     by false = refl
 
-after_has-keeps : (w : ℕ) (h : Option (Option RecordValue)) (ret : Option Returned) (f v : Option Timestamp) (m : ℕ) (x : Bool) → (after_has w h (course ret f v m x)).returned ≡ ret
-after_has-keeps w None ret f v m x = refl
-after_has-keeps w (Some r) ret f v m x = refl
+after_has-keeps : (w : ℕ) (h : Option (Option RecordValue)) (x : Course) → (after_has w h x).returned ≡ x.returned
+after_has-keeps w None x = refl
+after_has-keeps w (Some r) x = refl
 
 -- a reply where there was none
 after_reply-is : (at : ℕ) (reply : Option Reply) (x : Course) → x.returned ≡ None →
-    course (option_map kept_return (return_now at reply)) x.first x.version x.made x.is_applied ≡ after_reply at reply x
-after_reply-is at None x none = course-same _ _ _ _ _ _ _ _ _ _ (sym none) refl refl refl refl
+    course (option_map kept_return (return_now at reply)) x.first x.first_made x.version x.made x.updated x.is_applied ≡ after_reply at reply x
+after_reply-is at None x none = course-same _ _ _ _ _ _ _ _ _ _ _ _ _ _ (sym none) refl refl refl refl refl refl
 after_reply-is at (Some reply) x none = refl
 
 module _ (p : Params) (c o w : ℕ) (cue : Cue) (t : List Deed) (trace : IsTrace p t) (awaits : Awaits p c o cue t) where
@@ -219,6 +243,10 @@ module _ (p : Params) (c o w : ℕ) (cue : Cue) (t : List Deed) (trace : IsTrace
   unfolding inputs_of
   own-inputs = rw (self c o) refl
 
+  own-first : first_made c o (Handed c o w cue ∷ t) ≡ earlier_made (first_has (inputs_of c o t)) (has_of cue) w (first_made c o t)
+  unfolding first_made
+  own-first = rw (self c o) refl
+
   own-made : version_made c o (Handed c o w cue ∷ t) ≡ newer_made (version_of (inputs_of c o t)) (has_of cue) w (version_made c o t)
   unfolding version_made
   own-made = rw (self c o) refl
@@ -231,26 +259,27 @@ module _ (p : Params) (c o w : ℕ) (cue : Cue) (t : List Deed) (trace : IsTrace
       ∙ ap (λ (x : Option Start). return_now (length t + 1) (reply_after p c o (cue ∷ inputs_of c o t) x)) (started-same c o (Handed c o w cue) t refl)
 
   own-course : course_of p (Handed c o w cue ∷ t) c o ≡ after_reply (length t + 1) reply (after_has w (has_of cue) before)
-  unfolding course_of served first_has version_of
+  unfolding course_of served first_has version_of first_update
   own-course =
-      let told = after_has-is w cue (has_of cue) (first_has (inputs_of c o t)) (version_of (inputs_of c o t)) (option_map kept_return (return_of p c o t)) (version_made c o t) (was_applied (served t) c o) in
-      course-same _ _ _ _ _ _ _ _ _ _
+      let told = after_has-is w cue (has_of cue) (first_has (inputs_of c o t)) (version_of (inputs_of c o t)) (option_map kept_return (return_of p c o t)) (first_made c o t) (version_made c o t) (option_map kept_update (first_update (is_own c o) t)) (was_applied (served t) c o) in
+      course-same _ _ _ _ _ _ _ _ _ _ _ _ _ _
       (ap (option_map kept_return) own-return)
       (ap (λ (x : List Cue). option_map stamp_of_record (first_has x)) own-inputs ∙ ap (λ (x : Course). x.first) told)
+      (own-first ∙ ap (λ (x : Course). x.first_made) told)
       (ap (λ (x : List Cue). option_map version_stamp (version_of x)) own-inputs ∙ ap (λ (x : Course). x.version) told)
       (own-made ∙ ap (λ (x : Course). x.made) told)
+      (none-updated (first_update (is_own c o) t) ∙ ap (λ (x : Course). x.updated) told)
       (ap (λ (x : Course). x.is_applied) told)
-      ∙ after_reply-is (length t + 1) reply (after_has w (has_of cue) before)
-      (after_has-keeps w (has_of cue) (option_map kept_return (return_of p c o t)) (option_map stamp_of_record (first_has (inputs_of c o t))) (option_map version_stamp (version_of (inputs_of c o t))) (version_made c o t) (was_applied (served t) c o) ∙ ap (option_map kept_return) no-return)
+      ∙ after_reply-is (length t + 1) reply (after_has w (has_of cue) before) (after_has-keeps w (has_of cue) before ∙ ap (option_map kept_return) no-return)
 
 -- ---- all deeds
 
 -- the course of an operation after the effects of a deed
 abbrev pub after : Params → Deed → List Deed → ℕ → ℕ → Course → Course
-after p d t c o x = noted_by (note_of_update (updated_at d t)) c o (noted_by (note_of_return (length t + 1) (return_at p d t)) c o (noted_by (note_of_heard (heard_at d)) c o x))
+after p d t c o x = noted_by (note_of_update (length t + 1) (updated_at d t)) c o (noted_by (note_of_return (length t + 1) (return_at p d t)) c o (noted_by (note_of_heard (heard_at d)) c o x))
 
 handed-step : (p : Params) (b n w c o : ℕ) (cue : Cue) (t : List Deed) → IsTrace p t → Awaits p b n cue t → course_of p (Handed b n w cue ∷ t) c o ≡ after p (Handed b n w cue) t c o (course_of p t c o)
-unfolding inputs_of version_made served
+unfolding inputs_of first_made version_made served first_update
 handed-step p b n w c o cue t trace awaits =
     elim (cases_bool ((b == c) && (n == o))) [
       | inl own ↦
@@ -262,22 +291,22 @@ handed-step p b n w c o cue t trace awaits =
           subst (λ (y : ℕ). course_of p (Handed b n w cue ∷ t) c y ≡ after p (Handed b n w cue) t c y (course_of p t c y)) (eqb-true n o tests.1)
           (subst (λ (x : ℕ). course_of p (Handed b n w cue ∷ t) x n ≡ after p (Handed b n w cue) t x n (course_of p t x n)) (eqb-true b c tests.0) here)
       | inr other ↦
-          unchanged p c o (Handed b n w cue) t (rw other refl) (rw other refl) refl (reply-same p c o (Handed b n w cue) t (rw other refl) (started-same c o (Handed b n w cue) t refl))
+          unchanged p c o (Handed b n w cue) t (rw other refl) (rw other refl) (rw other refl) (or-none (first_update (is_own c o) t)) refl (reply-same p c o (Handed b n w cue) t (rw other refl) (started-same c o (Handed b n w cue) t refl))
           ∙ sym (ap (λ (x : Course). noted_by (note_of_return (length t + 1) (return_at p (Handed b n w cue) t)) c o x) (heard-other b n c o w (has_of cue) (course_of p t c o) other)
           ∙ returned-other b n c o (length t + 1) (reply_after p b n (cue ∷ inputs_of b n t) (start_of b n t)) (course_of p t c o) other)
     ]
 
 pub course-step : (p : Params) (d : Deed) (t : List Deed) (c o : ℕ) → IsTrace p (d ∷ t) → course_of p (d ∷ t) c o ≡ after p d t c o (course_of p t c o)
-unfolding IsTrace inputs_of version_made served
-course-step p Joined t c o trace = unchanged p c o Joined t refl refl refl (reply-same p c o Joined t refl (started-same c o Joined t refl))
-course-step p (Began b n a) t c o trace = unchanged p c o (Began b n a) t refl refl refl (began-reply p b n c o a t trace.0)
+unfolding IsTrace inputs_of first_made version_made served first_update
+course-step p Joined t c o trace = unchanged p c o Joined t refl refl refl (or-none (first_update (is_own c o) t)) refl (reply-same p c o Joined t refl (started-same c o Joined t refl))
+course-step p (Began b n a) t c o trace = unchanged p c o (Began b n a) t refl refl refl (or-none (first_update (is_own c o) t)) refl (began-reply p b n c o a t trace.0)
 course-step p (Handed b n w cue) t c o trace = handed-step p b n w c o cue t trace.1 trace.0.0
-course-step p (Served ask) t c o trace = updated-step p c o ask t
-course-step p (Granted ask) t c o trace = unchanged p c o (Granted ask) t refl refl refl (reply-same p c o (Granted ask) t refl (started-same c o (Granted ask) t refl))
-course-step p (Stopped b) t c o trace = unchanged p c o (Stopped b) t refl refl refl (reply-same p c o (Stopped b) t refl (started-same c o (Stopped b) t refl))
-course-step p Nothing t c o trace = unchanged p c o Nothing t refl refl refl (reply-same p c o Nothing t refl (started-same c o Nothing t refl))
+course-step p (Served ask) t c o trace = updated-step p c o t ask
+course-step p (Granted ask) t c o trace = unchanged p c o (Granted ask) t refl refl refl (or-none (first_update (is_own c o) t)) refl (reply-same p c o (Granted ask) t refl (started-same c o (Granted ask) t refl))
+course-step p (Stopped b) t c o trace = unchanged p c o (Stopped b) t refl refl refl (or-none (first_update (is_own c o) t)) refl (reply-same p c o (Stopped b) t refl (started-same c o (Stopped b) t refl))
+course-step p Nothing t c o trace = unchanged p c o Nothing t refl refl refl (or-none (first_update (is_own c o) t)) refl (reply-same p c o Nothing t refl (started-same c o Nothing t refl))
 
 -- nothing was done
 pub course-start : (p : Params) (c o : ℕ) → course_of p [] c o ≡ fresh
-unfolding course_of return_of inputs_of first_has version_of version_made was_applied served
+unfolding course_of return_of inputs_of first_has version_of first_made version_made first_update was_applied served
 course-start p c o = refl

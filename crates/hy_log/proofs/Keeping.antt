@@ -24,15 +24,15 @@ use Rattle.hy_log.specs.Log.{LogKeeps, posted, started, posted_of, started_of, p
 
 -- the courses after the notes of a deed's effects
 pub courses-kept : (p : Params) (d : Deed) (t : List Deed) (e : Effects) (courses later : List (List Course)) → AreEffects p d t e → (IsTrace p t → AreCourses p t courses) →
-    ((c o : ℕ) → course_at later c o ≡ noted_by (note_of_update e.updated) c o (noted_by (note_of_return (length t + 1) e.returned) c o (noted_by (note_of_heard e.heard) c o (course_at courses c o)))) →
+    ((c o : ℕ) → course_at later c o ≡ noted_by (note_of_update (length t + 1) e.updated) c o (noted_by (note_of_return (length t + 1) e.returned) c o (noted_by (note_of_heard e.heard) c o (course_at courses c o)))) →
     IsTrace p (d ∷ t) → AreCourses p (d ∷ t) later
 unfolding IsTrace
 courses-kept p d t e courses later are courses_are notes trace = λ c o.
     notes c o
-    ∙ ap (λ (x : Course). noted_by (note_of_update e.updated) c o (noted_by (note_of_return (length t + 1) e.returned) c o (noted_by (note_of_heard e.heard) c o x))) (courses_are trace.1 c o)
-    ∙ ap (λ (x : Option Updated). noted_by (note_of_update x) c o (noted_by (note_of_return (length t + 1) e.returned) c o (noted_by (note_of_heard e.heard) c o (course_of p t c o)))) are.updated
-    ∙ ap (λ (x : Option Return). noted_by (note_of_update (updated_at d t)) c o (noted_by (note_of_return (length t + 1) x) c o (noted_by (note_of_heard e.heard) c o (course_of p t c o)))) are.returned
-    ∙ ap (λ (x : Option Heard). noted_by (note_of_update (updated_at d t)) c o (noted_by (note_of_return (length t + 1) (return_at p d t)) c o (noted_by (note_of_heard x) c o (course_of p t c o)))) are.heard
+    ∙ ap (λ (x : Course). noted_by (note_of_update (length t + 1) e.updated) c o (noted_by (note_of_return (length t + 1) e.returned) c o (noted_by (note_of_heard e.heard) c o x))) (courses_are trace.1 c o)
+    ∙ ap (λ (x : Option Updated). noted_by (note_of_update (length t + 1) x) c o (noted_by (note_of_return (length t + 1) e.returned) c o (noted_by (note_of_heard e.heard) c o (course_of p t c o)))) are.updated
+    ∙ ap (λ (x : Option Return). noted_by (note_of_update (length t + 1) (updated_at d t)) c o (noted_by (note_of_return (length t + 1) x) c o (noted_by (note_of_heard e.heard) c o (course_of p t c o)))) are.returned
+    ∙ ap (λ (x : Option Heard). noted_by (note_of_update (length t + 1) (updated_at d t)) c o (noted_by (note_of_return (length t + 1) (return_at p d t)) c o (noted_by (note_of_heard x) c o (course_of p t c o)))) are.heard
     ∙ sym (course-step p d t c o trace)
 
 -- three notes, one after the other
@@ -45,7 +45,7 @@ noted-thrice courses one two three x y z heard returned updated first second thi
 
 pub appended : (p : Params) (d : Deed) (t : List Deed) (e : Effects) (posts later : List Posted) (starts begun : List Started) (courses after : List (List Course)) (n : ℕ) → AreEffects p d t e → LogKeeps p t posts starts courses n →
     later ≡ posts ++ map (posted (n + 1)) e.posts.items → begun ≡ starts ++ started (n + 1) e.began →
-    ((c o : ℕ) → course_at after c o ≡ noted_by (note_of_update e.updated) c o (noted_by (note_of_return (n + 1) e.returned) c o (noted_by (note_of_heard e.heard) c o (course_at courses c o)))) →
+    ((c o : ℕ) → course_at after c o ≡ noted_by (note_of_update (n + 1) e.updated) c o (noted_by (note_of_return (n + 1) e.returned) c o (noted_by (note_of_heard e.heard) c o (course_at courses c o)))) →
     LogKeeps p (d ∷ t) later begun after (n + 1)
 unfolding posted_of started_of
 appended p d t e posts later starts begun courses after n are logs later_is begun_is after_is =
@@ -53,7 +53,7 @@ appended p d t e posts later starts begun courses after n are logs later_is begu
     record {
       posts_are = later_is ∙ ap (λ (x : List Posted). x ++ map (posted (n + 1)) e.posts.items) logs.posts_are ∙ ap (λ (x : List Post). posted_of p t ++ map (posted (n + 1)) x) are.posts ∙ ap (λ (k : ℕ). posted_of p t ++ map (posted (k + 1)) (map post_of (sent_at p d t))) count;
       starts_are = begun_is ∙ ap (λ (x : List Started). x ++ started (n + 1) e.began) logs.starts_are ∙ ap (λ (x : Option Beginning). started_of t ++ started (n + 1) x) are.began ∙ ap (λ (k : ℕ). started_of t ++ started (k + 1) (beginning_at d)) count;
-      courses_are = courses-kept p d t e courses after are logs.courses_are (λ c o. after_is c o ∙ ap (λ (k : ℕ). noted_by (note_of_update e.updated) c o (noted_by (note_of_return (k + 1) e.returned) c o (noted_by (note_of_heard e.heard) c o (course_at courses c o)))) count);
+      courses_are = courses-kept p d t e courses after are logs.courses_are (λ c o. after_is c o ∙ ap (λ (k : ℕ). noted_by (note_of_update (k + 1) e.updated) c o (noted_by (note_of_return (k + 1) e.returned) c o (noted_by (note_of_heard e.heard) c o (course_at courses c o)))) count);
       steps_are = omega (arith, count);
     }
 

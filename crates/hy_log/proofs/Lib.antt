@@ -9,3 +9,4 @@ pub mod Padding
 pub mod Sorting
 pub mod Spreading
 pub mod Telling
+pub mod Timing

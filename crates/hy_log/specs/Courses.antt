@@ -1,14 +1,17 @@
 -- The course of an operation: what has become of it since it began.
-use Rattle.std.specs.Prelude.{◌≡◌, ℕ, Bool, true, false, ◌==◌, ◌&&◌, ◌||◌, List, [], Option, Some, None, slice_index_or, if◌then◌else◌}
+use Rattle.std.specs.Prelude.{◌≡◌, ℕ, Bool, true, false, ◌==◌, ◌&&◌, ◌||◌, List, [], ◌∷◌, Option, Some, None, slice_index_or, is_some, if◌then◌else◌}
 use Rattle.std.specs.Option.{option_map, option_or}
 use Rattle.hy_record.specs.Stamp.{Timestamp, stamp_lt}
 use Rattle.hy_meta.specs.Service.{stamp_of_record}
 use Rattle.hy_protocol.specs.Read.{Version, version_of}
 use Rattle.hy_protocol.specs.Write.{first_has}
-use Rattle.hy_trace.specs.Deeds.{Params, Deed, served, inputs_of}
+use Rattle.hy_record.specs.Record.{RecordValue}
+use Rattle.hy_protocol.specs.Inputs.{has_of}
+use Rattle.hy_trace.specs.Deeds.{Params, Deed, Joined, Began, Handed, Served, Granted, Stopped, Nothing, served, inputs_of}
 use Rattle.hy_trace.specs.History as history
-use Rattle.hy_trace.specs.Points.{version_made, was_applied}
+use Rattle.hy_trace.specs.Points.{Update, first_update, is_own, version_made, was_applied}
 use Rattle.hy_log.specs.declared.course.Returned.{Returned}
+use Rattle.hy_log.specs.declared.course.FirstUpdate.{FirstUpdate}
 use Rattle.hy_log.specs.declared.course.Course.{Course}
 use Rattle.hy_log.specs.declared.course.News.{News}
 use Rattle.hy_log.specs.declared.course.News.TheVariants.{Heard, Replied, Updated}
@@ -19,7 +22,7 @@ use Rattle.hy_log.specs.declared.effects.Updated as updates
 
 -- nothing has become of the operation
 abbrev pub fresh : Course
-fresh = record { returned = None; first = None; version = None; made = 0; is_applied = false }
+fresh = record { returned = None; first = None; first_made = 0; version = None; made = 0; updated = None; is_applied = false }
 
 -- the timestamp is above the one known, or none is known
 abbrev pub is_newer : Option Timestamp → Timestamp → Bool
@@ -32,24 +35,30 @@ noted (Heard stamp made) course =
     record {
       returned = course.returned;
       first = option_or course.first (Some stamp);
+      first_made = if is_some course.first then course.first_made else made;
       version = if is_newer course.version stamp then Some stamp else course.version;
       made = if is_newer course.version stamp then made else course.made;
+      updated = course.updated;
       is_applied = course.is_applied;
     }
 noted (Replied at reply) course =
     record {
       returned = Some (record { at = at; reply = reply });
       first = course.first;
+      first_made = course.first_made;
       version = course.version;
       made = course.made;
+      updated = course.updated;
       is_applied = course.is_applied;
     }
-noted (Updated is_applied) course =
+noted (Updated at is_applied) course =
     record {
       returned = course.returned;
       first = course.first;
+      first_made = course.first_made;
       version = course.version;
       made = course.made;
+      updated = option_or course.updated (Some (record { at = at; is_applied = is_applied }));
       is_applied = is_applied || course.is_applied;
     }
 
@@ -63,10 +72,10 @@ abbrev pub note_of_return : ℕ → Option Return → Option Note
 note_of_return at None = None
 note_of_return at (Some r) = Some (record { client = r.client; op = r.op; news = Replied at r.reply })
 
--- what an operation meets where its update is served
-abbrev pub note_of_update : Option updates.Updated → Option Note
-note_of_update None = None
-note_of_update (Some u) = Some (record { client = u.client; op = u.op; news = Updated u.is_applied })
+-- what an operation meets where its update is served, at this step
+abbrev pub note_of_update : ℕ → Option updates.Updated → Option Note
+note_of_update at None = None
+note_of_update at (Some u) = Some (record { client = u.client; op = u.op; news = Updated at u.is_applied })
 
 -- the course of this operation after a note, which may be of another one
 abbrev pub noted_by : Option Note → ℕ → ℕ → Course → Course
@@ -88,14 +97,39 @@ kept_return r = record { at = r.at; reply = r.reply }
 abbrev pub version_stamp : Version → Timestamp
 version_stamp v = stamp_of_record v.rec
 
+abbrev pub kept_update : Update → FirstUpdate
+kept_update u = record { at = u.step; is_applied = u.is_applied }
+
+-- where the first answer was made that told the record, after an input that tells this record or none, and was made at this step
+abbrev pub earlier_made : Option (Option RecordValue) → Option (Option RecordValue) → ℕ → ℕ → ℕ
+earlier_made (Some held) has made old = old
+earlier_made None None made old = old
+earlier_made None (Some held) made old = made
+
+-- the step at which the service made the answer that told an operation the record first
+unfoldable pub first_made : ℕ → ℕ → List Deed → ℕ
+first_made client op [] = 0
+first_made client op (Handed c o made cue ∷ before) =
+    if c == client && o == op
+    then earlier_made (first_has (inputs_of client op before)) (has_of cue) made (first_made client op before)
+    else first_made client op before
+first_made client op (Served ask ∷ before) = first_made client op before
+first_made client op (Joined ∷ before) = first_made client op before
+first_made client op (Began c o a ∷ before) = first_made client op before
+first_made client op (Granted ask ∷ before) = first_made client op before
+first_made client op (Stopped c ∷ before) = first_made client op before
+first_made client op (Nothing ∷ before) = first_made client op before
+
 -- the course of an operation in a trace
 unfoldable pub course_of : Params → List Deed → ℕ → ℕ → Course
 course_of p t c o =
     record {
       returned = option_map kept_return (history.return_of p c o t);
       first = option_map stamp_of_record (first_has (inputs_of c o t));
+      first_made = first_made c o t;
       version = option_map version_stamp (version_of (inputs_of c o t));
       made = version_made c o t;
+      updated = option_map kept_update (first_update (is_own c o) t);
       is_applied = was_applied (served t) c o;
     }
 

@@ -67,7 +67,8 @@ heard_at Nothing = None
 
 -- the update that the service serves by this request
 abbrev pub updated_by : MetaAsk → List MetaAsk → Option Updated
-updated_by (asks.Update c o k r) before = Some (record { client = c; op = o; is_applied = stamp_lt (record_stamp before k) r.stamp })
+updated_by (asks.Update c o k r) before =
+    Some (record { client = c; op = o; is_applied = stamp_lt (record_stamp before k) r.stamp })
 updated_by (asks.Read c o k) before = None
 updated_by (asks.Watch c o k s) before = None
 updated_by (asks.Olds c o k) before = None

@@ -22,7 +22,8 @@ told_progress progress = record { phase = progress.phase; have = progress.have; 
 abbrev pub AreRunning : Params → List Deed → List (Option Progress) → Type 0
 AreRunning p t running =
     (c : ℕ) (start : Start) → start_of c (begun c t) t ≡ Some start → reply_of p c (begun c t) t ≡ None →
-    slice_index_or running (c - 1) None ≡ Some (told_progress (protocol.progress_of p.f p.k c (begun c t) start.action (inputs_of c (begun c t) t)))
+    slice_index_or running (c - 1) None
+    ≡ Some (told_progress (protocol.progress_of p.f p.k c (begun c t) start.action (inputs_of c (begun c t) t)))
 
 -- how far an operation is that has just begun
 abbrev pub first_progress : Action → Progress
@@ -49,10 +50,14 @@ told_operation courses running number started =
       client = started.beginning.client;
       action = started.beginning.action;
       invoked = started.step;
-      end = told_end (course_at courses started.beginning.client started.beginning.op).returned (slice_index_or running (started.beginning.client - 1) None) started.beginning.action;
+      end = told_end
+          (course_at courses started.beginning.client started.beginning.op).returned
+          (slice_index_or running (started.beginning.client - 1) None)
+          started.beginning.action;
     }
 
 -- the operations, numbered from this number on
 abbrev pub told_from : List (List Course) → List (Option Progress) → ℕ → List Started → List Operation
 told_from courses running number [] = []
-told_from courses running number (started ∷ later) = told_operation courses running number started ∷ told_from courses running (number + 1) later
+told_from courses running number (started ∷ later) =
+    told_operation courses running number started ∷ told_from courses running (number + 1) later

@@ -4,3 +4,4 @@ pub mod Kept
 pub mod History
 pub mod Log
 pub mod Orders
+pub mod Points

@@ -92,12 +92,14 @@ with_place (Some key) place number keys = with_places keys key (added place numb
 
 -- with an operation of this number that the log keeps
 abbrev pub with_operation : List (List Course) → ℕ → Started → List (List ℕ × List (Place × ℕ)) → List (List ℕ × List (Place × ℕ))
-with_operation courses number started keys = with_place (register_key started.beginning.action) (course_place courses started) number keys
+with_operation courses number started keys =
+    with_place (register_key started.beginning.action) (course_place courses started) number keys
 
 -- with these operations, numbered from this number on
 abbrev pub placed_from : List (List Course) → ℕ → List (List ℕ × List (Place × ℕ)) → List Started → List (List ℕ × List (Place × ℕ))
 placed_from courses number keys [] = keys
-placed_from courses number keys (started ∷ later) = placed_from courses (number + 1) (with_operation courses number started keys) later
+placed_from courses number keys (started ∷ later) =
+    placed_from courses (number + 1) (with_operation courses number started keys) later
 
 -- the order of a key with its listed operations
 abbrev pub order_line : List ℕ × List (Place × ℕ) → Order

@@ -12,6 +12,14 @@ pub struct Returned {
     pub reply: Reply,
 }
 
+/// The first update of an operation that the service served: the step of that, and whether it was
+/// applied.
+#[derive(Clone, Copy, Debug)]
+pub struct FirstUpdate {
+    pub at: u64,
+    pub is_applied: bool,
+}
+
 /// What has become of an operation.
 #[derive(Debug, Drop)]
 pub struct Course {
@@ -19,10 +27,14 @@ pub struct Course {
     pub returned: Option<Returned>,
     /// The timestamp of the record that it was told first.
     pub first: Option<Stamp>,
+    /// The step at which the answer was made that told it so; 0 where there is none.
+    pub first_made: u64,
     /// The greatest timestamp of a record that it was told.
     pub version: Option<Stamp>,
     /// The step at which the answer was made that told it so first; 0 where there is none.
     pub made: u64,
+    /// Its first update that was served.
+    pub updated: Option<FirstUpdate>,
     /// Whether an update of it was applied.
     pub is_applied: bool,
 }
@@ -34,8 +46,8 @@ pub(crate) enum News {
     Heard { stamp: Stamp, made: u64 },
     /// It replied, at this step.
     Replied { at: u64, reply: Reply },
-    /// The service served its update, and applied it or refused it.
-    Updated { is_applied: bool },
+    /// The service served its update at this step, and applied it or refused it.
+    Updated { at: u64, is_applied: bool },
 }
 
 impl Course {
@@ -46,8 +58,10 @@ impl Course {
         Course {
             returned: None,
             first: None,
+            first_made: 0,
             version: None,
             made: 0,
+            updated: None,
             is_applied: false,
         }
     }
@@ -59,7 +73,7 @@ impl Course {
         match news {
             News::Heard { stamp, made } => self.hear(stamp, made),
             News::Replied { at, reply } => self.returned = Some(Returned { at, reply }),
-            News::Updated { is_applied } => self.is_applied = is_applied || self.is_applied,
+            News::Updated { at, is_applied } => self.update(at, is_applied),
         }
     }
 
@@ -69,11 +83,22 @@ impl Course {
     {
         if self.first.is_none() {
             self.first = Some(stamp);
+            self.first_made = made;
         }
         if is_newer(&self.version, &stamp) {
             self.version = Some(stamp);
             self.made = made;
         }
+    }
+
+    /// Notes that its update was served.
+    fn update(&mut self, at: u64, is_applied: bool)
+        ensures { self.new ≡ noted (News.Updated at is_applied) self.old }
+    {
+        if self.updated.is_none() {
+            self.updated = Some(FirstUpdate { at, is_applied });
+        }
+        self.is_applied = is_applied || self.is_applied;
     }
 }
 

@@ -1,6 +1,7 @@
 //! The courses of the operations of all clients.
 
-ghost use Rattle.std.specs.Prelude.{◌≡◌, ◌<◌, ◌==◌, ℕ, [], length, OnOk, IfSome, IfNone, if◌then◌else◌};
+ghost use Rattle.std.specs.Prelude.{◌≡◌, ◌<◌, ◌==◌, ℕ, [], length, OnOk, IfSome, IfNone};
+ghost use Rattle.std.specs.Prelude.{if◌then◌else◌};
 ghost use Rattle.hy_log.specs.Courses.{fresh, course_in, course_at, noted, noted_by};
 
 use crate::course::{Course, News};
@@ -56,7 +57,8 @@ impl ClientCourses {
 /// Makes the list long enough for the operation of this number.
 fn reach_operation(courses: &mut Vec<Course>, op: u32) -> Result<(), NoMemory>
     ensures reached { OnOk result (op < length courses.new.items) }
-    ensures same { OnOk result ((o : ℕ) → course_in courses.new.items o ≡ course_in courses.old.items o) }
+    ensures same { OnOk result ((o : ℕ) →
+        course_in courses.new.items o ≡ course_in courses.old.items o) }
 {
     for _number in courses.len()..op as usize + 1 {
         courses.push(Course::new())?;
@@ -100,7 +102,8 @@ impl Courses {
 
     /// Notes what an operation meets, if it meets something.
     pub(crate) fn note(&mut self, note: Option<Note>) -> Result<(), NoMemory>
-        ensures { OnOk result ((c o : ℕ) → course_at self.new c o ≡ noted_by note c o (course_at self.old c o)) }
+        ensures { OnOk result ((c o : ℕ) →
+            course_at self.new c o ≡ noted_by note c o (course_at self.old c o)) }
     {
         let Some(Note { client, op, news }) = note else {
             return Ok(());
@@ -113,7 +116,8 @@ impl Courses {
 /// Makes the list long enough for the client of this number.
 fn reach_client(clients: &mut Vec<ClientCourses>, client: u32) -> Result<(), NoMemory>
     ensures reached { OnOk result (client < length clients.new.items) }
-    ensures same { OnOk result ((c o : ℕ) → course_at clients.new.items c o ≡ course_at clients.old.items c o) }
+    ensures same { OnOk result ((c o : ℕ) →
+        course_at clients.new.items c o ≡ course_at clients.old.items c o) }
 {
     let alloc = *clients.allocator();
     for _number in clients.len()..client as usize + 1 {

@@ -40,7 +40,8 @@ pub struct Updated {
     pub is_applied: bool,
 }
 
-/// What a deed leads to: messages in the order in which they are sent, and what the report of a run tells of it.
+/// What a deed leads to: messages in the order in which they are sent, and what the report of a run
+/// tells of it.
 #[derive(Debug, Drop)]
 pub struct Effects {
     pub posts: Vec<Post>,

@@ -1,11 +1,17 @@
 //! The history of a run: its operations, with how each ended or how far it is.
 
-ghost use Rattle.std.specs.Prelude.{◌≡◌, ◌+◌, ◌-◌, ◌<◌, ◌^◌, List, None, length, slice_index_or, IfOk};
+ghost use Rattle.std.specs.Prelude.{◌≡◌, ◌+◌, ◌-◌, List, None, slice_index_or, IfOk};
 ghost use Rattle.hy_trace.specs.Deeds.{Params as TraceParams, Deed};
 ghost use Rattle.hy_trace.specs.History.{history_of};
 ghost use Rattle.hy_trace.specs.Trace.{IsTrace};
 ghost use Rattle.hy_log.specs.Courses.{course_at};
-ghost use Rattle.hy_log.specs.History.{AreRunning, first_progress, told_end, told_from, told_operation};
+ghost use Rattle.hy_log.specs.History.{
+  AreRunning,
+  first_progress,
+  told_end,
+  told_from,
+  told_operation,
+};
 ghost use Rattle.hy_log.specs.Log.{Keeps};
 
 use crate::copies::{copy_of_action, copy_of_reply};
@@ -28,7 +34,8 @@ impl Log {
         running: &[Option<Progress>],
     ) -> Result<Vec<Operation>, NoMemory>
         ensures { IfOk result (λ operations. (p : TraceParams) (t : List Deed) →
-            IsTrace p t → Keeps self.now p t → AreRunning p t running.now → operations.items ≡ history_of p t) }
+            IsTrace p t → Keeps self.now p t → AreRunning p t running.now
+            → operations.items ≡ history_of p t) }
     {
         let operations = self.operations(alloc, running)?;
         Ok(operations)
@@ -40,7 +47,8 @@ impl Log {
         alloc: Global,
         running: &[Option<Progress>],
     ) -> Result<Vec<Operation>, NoMemory>
-        ensures { IfOk result (λ operations. operations.items ≡ told_from self.now.courses running.now 1 self.now.starts.items) }
+        ensures { IfOk result (λ operations. operations.items
+            ≡ told_from self.now.courses running.now 1 self.now.starts.items) }
     {
         let mut operations = Vec::new(alloc);
         for started in &self.starts {
@@ -58,7 +66,8 @@ impl Log {
         started: &Started,
         running: &[Option<Progress>],
     ) -> Result<Operation, NoMemory>
-        ensures { IfOk result (λ operation. operation ≡ told_operation self.now.courses running.now number started.now) }
+        ensures { IfOk result (λ operation. operation
+            ≡ told_operation self.now.courses running.now number started.now) }
     {
         let beginning = &started.beginning;
         let client = beginning.client;

@@ -1,4 +1,5 @@
-//! What is kept of the steps of a store: the messages, and the operations with what a report tells of them.
+//! What is kept of the steps of a store: the messages, and the operations with what a report tells of
+//! them.
 #![tactic(auto)]
 
 mod copies;
@@ -9,14 +10,16 @@ mod history;
 mod kept;
 mod last_key;
 mod log;
+mod moment;
 mod notes;
 mod orders;
 mod place;
 mod places;
+mod points;
 mod post;
 
 pub use copies::copy_of_action;
-pub use course::{Course, Returned};
+pub use course::{Course, FirstUpdate, Returned};
 pub use courses::Courses;
 pub use effects::{Beginning, Effects, Heard, Return, Updated, return_of};
 pub use kept::{Kept, KeptPost, KeptRequest};

@@ -51,14 +51,15 @@ impl Log {
     pub fn append(&mut self, effects: Effects) -> Result<(), NoMemory>
         requires { self.old.steps + 1 < 2 ^ 64 }
         ensures steps { OnOk result (self.new.steps ≡ self.old.steps + 1) }
-        ensures keeps { OnOk result ((p : TraceParams) (d : Deed) (t : List Deed) → AreEffects p d t effects → Keeps self.old p t → Keeps self.new p (d ∷ t)) }
+        ensures keeps { OnOk result ((p : TraceParams) (d : Deed) (t : List Deed) →
+            AreEffects p d t effects → Keeps self.old p t → Keeps self.new p (d ∷ t)) }
     {
         let step = self.steps + 1;
         add_posts(&mut self.posts, &mut self.last_key, step, effects.posts)?;
         add_start(&mut self.starts, step, effects.began)?;
         self.courses.note(note_of_heard(effects.heard))?;
         self.courses.note(note_of_return(step, effects.returned))?;
-        self.courses.note(note_of_update(effects.updated))?;
+        self.courses.note(note_of_update(step, effects.updated))?;
         self.steps = step;
         Ok(())
     }

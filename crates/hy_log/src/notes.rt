@@ -37,15 +37,15 @@ pub(crate) fn note_of_return(at: u64, returned: Option<Return>) -> Option<Note>
     Some(Note { client, op, news })
 }
 
-/// What an operation meets where its update is served.
-pub(crate) fn note_of_update(updated: Option<Updated>) -> Option<Note>
-    ensures { result ≡ note_of_update updated }
+/// What an operation meets where its update is served, at this step.
+pub(crate) fn note_of_update(at: u64, updated: Option<Updated>) -> Option<Note>
+    ensures { result ≡ note_of_update at updated }
 {
     let Updated {
         client,
         op,
         is_applied,
     } = updated?;
-    let news = News::Updated { is_applied };
+    let news = News::Updated { at, is_applied };
     Some(Note { client, op, news })
 }

@@ -20,7 +20,8 @@ use std::alloc::Global;
 impl Log {
     /// The order of each key that a put, a get or a delete names, by the keys' order.
     ///
-    /// It takes time n log n in the operations. More than 4,294,967,295 of them are refused as want of memory.
+    /// It takes time n log n in the operations. More than 4,294,967,295 of them are refused as want of
+    /// memory.
     pub fn orders(&self, alloc: Global) -> Result<Orders, NoMemory>
         ensures { IfOk result (λ orders. (p : TraceParams) (t : List Deed) →
             IsTrace p t → Keeps self.now p t → orders ≡ map (order_of p t) (keys_of p t)) }
@@ -32,7 +33,8 @@ impl Log {
 
     /// The listed operations of each key.
     fn places(&self, alloc: Global) -> Result<PlacesByKey, NoMemory>
-        ensures { IfOk result (λ places. places ≡ placed_from self.now.courses 1 [] self.now.starts.items) }
+        ensures { IfOk result (λ places. places
+            ≡ placed_from self.now.courses 1 [] self.now.starts.items) }
     {
         let mut places = PlacesByKey::new(alloc);
         for (index, started) in self.starts.iter().enumerate() {
@@ -50,7 +52,8 @@ impl Log {
         number: u32,
         started: &Started,
     ) -> Result<(), NoMemory>
-        ensures { OnOk result (places.new ≡ with_operation self.now.courses number started.now places.old) }
+        ensures { OnOk result (places.new
+            ≡ with_operation self.now.courses number started.now places.old) }
     {
         match register_key(&started.beginning.action) {
             Some(key) => places.add(alloc, key, self.place_of(started), number),

@@ -6,7 +6,7 @@ ghost use Rattle.std.specs.Cmp.Lexicographic.{slice_cmp};
 ghost use Rattle.std.specs.List.Sorted.{IsStrictlySortedBy};
 ghost use Rattle.std.specs.Map.{keys_of};
 ghost use Rattle.std.specs.Ordering.{nat_cmp};
-ghost use Rattle.hy_log.specs.Orders.{place_cmp, number_at, added, places_at, with_places, order_line};
+ghost use Rattle.hy_log.specs.Orders.{number_at, added, places_at, with_places, order_line};
 
 use crate::place::Place;
 use hy_base::{NoMemory, Numbers};
@@ -96,7 +96,8 @@ impl PlacesByKey {
         place: Option<Place>,
         number: u32,
     ) -> Result<(), NoMemory>
-        ensures { OnOk result (self.new ≡ with_places self.old key (added place number (places_at self.old key))) }
+        ensures { OnOk result (self.new
+            ≡ with_places self.old key (added place number (places_at self.old key))) }
     {
         let places = self.keys.entry(key)?.or_insert(Places::new(alloc));
         places.add(place, number)

@@ -6,6 +6,7 @@ use crate::simulation::Simulation;
 use hy_base::NoMemory;
 use hy_meta::{Meta, Service};
 use hy_order::{Held, History, Report};
+use hy_points::PointLog;
 use hy_record::Key;
 use hy_sched::{Event, Params};
 use std::alloc::Global;
@@ -38,6 +39,7 @@ impl<M: Meta + Drop> WorldOver<M> {
     ghost use Rattle.hy_trace.specs.Held.{HasLiars, held_of};
     ghost use Rattle.hy_trace.specs.History.{history_of};
     ghost use Rattle.hy_trace.specs.Report.{report_of};
+    ghost use Rattle.hy_log.specs.Points.{points_of};
     ghost use Rattle.hy_world.specs.Promises.{StaysRetrievable, StarvesOnlyOld, RefreshesAtMost, DeletesOnlyOld};
     ghost use Rattle.hy_world.specs.World.{StandsForSteps, StandsForSome, IsBroken, events_taken};
 
@@ -133,6 +135,17 @@ impl<M: Meta + Drop> WorldOver<M> {
     {
         let history = self.simulation.history(alloc)?;
         Ok(history)
+    }
+
+    /// The moments at which the puts, gets and deletes began, read, wrote and returned, in the order
+    /// of their steps.
+    pub fn points(&self, alloc: Global) -> Result<PointLog, NoMemory>
+        ensures { IfOk result (λ points. (p : TraceParams) (steps : List Step) →
+            StandsForSteps M.served M.given p steps self.now →
+            points ≡ points_of p (trace_of p steps)) }
+    {
+        let points = self.simulation.log.points(alloc)?;
+        Ok(points)
     }
 
     /// The history, an order for each key of a put, get or delete, and the copies of the current
