@@ -1,0 +1,253 @@
+//! The sockets of a net: a listener, the open connections, and those that are being closed.
+
+ghost use Rattle.std.specs.Prelude.{IfSome, IfOk, length};
+ghost use Rattle.hy_base.specs.Moves.{InBuffer};
+
+use crate::connection::Connection;
+use crate::pace::Pace;
+use hy_base::Arrival;
+use std::alloc::{AllocError, Global};
+use std::io;
+use std::io::ErrorKind;
+use std::net::{Ipv4Addr, Net, SocketAddr, SocketAddrV4, TcpListener, TcpStream};
+use std::rt::Clock;
+use std::time::Duration;
+
+/// The most connections that are open at once.
+const ROOM: usize = 8_192;
+
+/// How many passes a closed connection goes on, so that its peer gets what was sent.
+const LINGER: u32 = 2_000;
+
+/// How many passes one wait makes at most.
+const PASSES: u32 = 1_000;
+
+/// How long a dial waits for its peer, in milliseconds.
+const DIALLING: u64 = 1_000;
+
+/// An open connection by its number.
+#[derive(Drop)]
+struct Open {
+    number: u32,
+    connection: Connection,
+}
+
+/// A connection that was closed here. It sends what waits, and is read until its peer closes too.
+#[derive(Drop)]
+struct Closing {
+    connection: Connection,
+    passes: u32,
+    ended: bool,
+}
+
+/// Sockets that do not block, which are read in turn. The open ones stand by their numbers.
+#[derive(Drop)]
+pub(crate) struct Sockets {
+    alloc: Global,
+    listener: Option<TcpListener>,
+    open: Vec<Open>,
+    closing: Vec<Closing>,
+    turn: usize,
+    given: u32,
+    pace: Pace,
+}
+
+fn loopback(port: u16) -> SocketAddr {
+    SocketAddr::V4(SocketAddrV4::new(Ipv4Addr::new(127, 0, 0, 1), port))
+}
+
+fn unknown() -> io::Error {
+    io::Error::from(ErrorKind::Other)
+}
+
+impl Sockets {
+    /// No socket is open. Room is reserved for as many connections as can be.
+    pub(crate) fn new(alloc: Global) -> Result<Sockets, AllocError> {
+        Ok(Sockets {
+            alloc,
+            listener: None,
+            open: Vec::with_capacity(alloc, ROOM)?,
+            closing: Vec::with_capacity(alloc, ROOM)?,
+            turn: 0,
+            given: 0,
+            pace: Pace::new(),
+        })
+    }
+
+    /// Takes connections at the port from now on.
+    pub(crate) fn listen<R: Net<Listener = TcpListener, Stream = TcpStream>>(
+        &mut self,
+        rt: &R,
+        port: u16,
+    ) -> io::Result<()> {
+        let listener = TcpListener::bind(rt, loopback(port))?;
+        listener.set_nonblocking(true)?;
+        self.listener = Some(listener);
+        Ok(())
+    }
+
+    /// Opens a connection to the port, and answers its number.
+    pub(crate) fn dial<R: Net<Listener = TcpListener, Stream = TcpStream>>(
+        &mut self,
+        rt: &R,
+        port: u16,
+    ) -> io::Result<u32> {
+        if !self.has_room() {
+            return Err(unknown());
+        }
+        self.pace.hurry();
+        let patience = Duration::from_millis(DIALLING);
+        let stream = TcpStream::connect_timeout(rt, &loopback(port), patience)?;
+        self.keep(stream)
+    }
+
+    /// Sends the bytes, or keeps those that the socket does not take now.
+    pub(crate) fn send(&mut self, number: u32, bytes: &[u8]) -> io::Result<()> {
+        match self.place_of(number) {
+            Some(place) if place < self.open.len() => self.open[place].connection.send(bytes),
+            _ => Err(unknown()),
+        }
+    }
+
+    /// Sends no more on the connection than waits, and forgets its number.
+    pub(crate) fn close(&mut self, number: u32) -> io::Result<()> {
+        match self.place_of(number) {
+            Some(place) if place < self.open.len() => {
+                let mut closing = Closing::of(self.open.remove(place).connection);
+                if closing.goes_on() && self.closing.len() < ROOM {
+                    self.closing.push(closing)?;
+                }
+                Ok(())
+            }
+            _ => Ok(()),
+        }
+    }
+
+    /// What comes next, or Quiet where nothing comes for some milliseconds.
+    pub(crate) fn wait<C: Clock>(&mut self, clock: &C, buf: &mut [u8]) -> io::Result<Arrival>
+        ensures { IfOk result (InBuffer (length buf.new)) }
+    {
+        for _ in 0..PASSES {
+            self.go_on();
+            if let Some(number) = self.accept()? {
+                self.pace.hurry();
+                return Ok(Arrival::Opened(number));
+            }
+            if let Some(arrival) = self.read_any(buf) {
+                self.pace.hurry();
+                return Ok(arrival);
+            }
+            if self.pace.is_over() {
+                break;
+            }
+            self.pace.rest(clock);
+        }
+        Ok(Arrival::Quiet)
+    }
+
+    /// Numbers the connection over the socket, and keeps it.
+    fn keep(&mut self, stream: TcpStream) -> io::Result<u32> {
+        let connection = Connection::over(self.alloc, stream)?;
+        let number = self.given.checked_add(1).ok_or(unknown())?;
+        self.open.push(Open { number, connection })?;
+        self.given = number;
+        Ok(number)
+    }
+
+    fn has_room(&self) -> bool {
+        self.open.len() < ROOM && self.given < u32::MAX
+    }
+
+    /// The place of the connection of this number.
+    fn place_of(&self, number: u32) -> Option<usize> {
+        self.open
+            .binary_search_by_key(&number, |open| open.number)
+            .ok()
+    }
+
+    /// The next connection that a peer opened. One that failed at once, or for which there is no room now, is none.
+    fn accept(&mut self) -> io::Result<Option<u32>> {
+        if !self.has_room() {
+            return Ok(None);
+        }
+        let Some(listener) = &self.listener else {
+            return Ok(None);
+        };
+        match listener.accept() {
+            Ok((stream, _peer)) => Ok(self.keep(stream).ok()),
+            Err(_) => Ok(None),
+        }
+    }
+
+    /// The first piece of a pass over the open connections, from behind the last one that was read.
+    fn read_any(&mut self, buf: &mut [u8]) -> Option<Arrival>
+        ensures { IfSome result (InBuffer (length buf.new)) }
+    {
+        for _ in 0..self.open.len() {
+            let after = self.turn.saturating_add(1);
+            self.turn = if after < self.open.len() { after } else { 0 };
+            if let Some(arrival) = self.read_at(self.turn, buf) {
+                return Some(arrival);
+            }
+        }
+        None
+    }
+
+    /// What came on the connection at the place. One that failed is closed.
+    fn read_at(&mut self, place: usize, buf: &mut [u8]) -> Option<Arrival>
+        ensures { IfSome result (InBuffer (length buf.new)) }
+    {
+        if place >= self.open.len() {
+            return None;
+        }
+        let open = &mut self.open[place];
+        let number = open.number;
+        match open.connection.read(buf) {
+            Ok(None) => None,
+            Ok(Some(count)) if count > 0 => Some(Arrival::Bytes(number, count)),
+            Ok(Some(_)) | Err(_) => {
+                let _gone = self.open.remove(place);
+                Some(Arrival::Closed(number))
+            }
+        }
+    }
+
+    /// Hands the sockets what waits for them, and goes on with those that are being closed.
+    fn go_on(&mut self) {
+        for open in self.open.iter_mut() {
+            let _failed = open.connection.flush();
+        }
+        self.closing.retain_mut(|closing| closing.goes_on());
+    }
+}
+
+impl Closing {
+    /// The connection, from its close on.
+    fn of(connection: Connection) -> Closing {
+        Closing {
+            connection,
+            passes: LINGER,
+            ended: false,
+        }
+    }
+
+    /// Sends what waits, then ends, and reads until the peer has ended too; whether that is still to be done.
+    fn goes_on(&mut self) -> bool {
+        self.passes = self.passes.saturating_sub(1);
+        if self.passes == 0 || self.connection.flush().is_err() {
+            return false;
+        }
+        if !self.ended && !self.connection.has_unsent() {
+            if self.connection.end().is_err() {
+                return false;
+            }
+            self.ended = true;
+        }
+        let mut rest = [0u8; 4_096];
+        match self.connection.read(&mut rest) {
+            Ok(Some(count)) => count > 0,
+            Ok(None) => true,
+            Err(_) => false,
+        }
+    }
+}
