@@ -9,3 +9,4 @@ pub mod Heads
 pub mod Literals
 pub mod Requests
 pub mod Responses
+pub mod Sizes

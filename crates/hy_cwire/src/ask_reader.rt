@@ -3,7 +3,7 @@
 ghost use Rattle.std.specs.Prelude.{◌≡◌, ◌≢◌, ◌++◌, ℕ, List, [], Err, IfOk};
 ghost use Rattle.hy_cwire.specs.declared.fault.HttpFault.TheVariants as faults;
 ghost use Rattle.hy_cwire.specs.declared.progress.Progress.TheVariants as stages;
-ghost use Rattle.hy_cwire.specs.Stages.{IsLive, answer_of, after_end, after_next, next_answer};
+ghost use Rattle.hy_cwire.specs.Stages.{IsLive, IsOpen, answer_of, after_end, after_next, next_answer};
 ghost use Rattle.hy_cwire.specs.Readers.{IsAskAt, ask_body_size};
 ghost use Rattle.hy_cwire.specs.Asks.{wish_in};
 
@@ -53,6 +53,7 @@ impl AskReader {
         ensures answer { result ≢ Err faults.NoMemory → result ≡ answer_of self.new }
         ensures stands { result ≢ Err faults.NoMemory → IsLive self.old → (bytes : List ℕ)
             → IsAskAt bytes self.old → IsAskAt (bytes ++ piece.now) self.new }
+        ensures open { result ≢ Err faults.NoMemory → IsOpen self.old → IsOpen self.new }
         ensures broken { ¬ (IsLive self.old) → self.new ≡ self.old }
         ensures memory { result ≡ Err faults.NoMemory → self.new ≡ self.old }
     {

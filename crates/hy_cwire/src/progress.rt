@@ -6,7 +6,7 @@ ghost use Rattle.hy_cwire.specs.declared.fault.HttpFault.TheVariants as faults;
 ghost use Rattle.hy_cwire.specs.declared.progress.Progress.{Progress};
 ghost use Rattle.hy_cwire.specs.declared.progress.Progress.TheVariants as stages;
 ghost use Rattle.hy_cwire.specs.Block.{HasNoBlock};
-ghost use Rattle.hy_cwire.specs.Stages.{IsAt, IsLive, IsUnfinished, IsSound, Begins, answer_of, after_end};
+ghost use Rattle.hy_cwire.specs.Stages.{IsAt, IsLive, IsUnfinished, IsOpen, IsSound, Begins, answer_of, after_end};
 
 use crate::block::{MAX_HEAD, end_in};
 use crate::bytes::Bytes;
@@ -25,7 +25,8 @@ pub trait Head: Sized + Drop {
     /// Reads the head that is the block.
     fn read(alloc: Global, block: &[u8]) -> Result<Self, HttpFault>
         requires { length block.now ≤ MAX_HEAD }
-        ensures { result ≢ Err faults.NoMemory → comes_to block.now result };
+        ensures comes { result ≢ Err faults.NoMemory → comes_to block.now result }
+        ensures uncut { (have want : ℕ) → result ≢ Err (faults.Cut have want) };
 
     /// How many bytes of body it announces.
     fn body_size(&self) -> usize
@@ -53,6 +54,7 @@ pub(crate) fn fed<H: Head>(
     piece: &[u8],
 ) -> Result<Progress<H>, Progress<H>>
     ensures sound { IsSound progress → IfOk result IsSound }
+    ensures open { IsOpen progress → IfOk result IsOpen }
     ensures broken { ¬ (IsLive progress) → IfOk result (λ after. after ≡ progress) }
     ensures stands { MatchResult result
         (λ after. IsLive progress → (bytes : List ℕ) → IsAt H.comes_to H.size bytes progress
@@ -76,6 +78,7 @@ pub(crate) fn fed<H: Head>(
 /// Takes a piece of the block, and where the block ends in it, a piece of the body.
 fn in_head<H: Head>(alloc: Global, front: Bytes, piece: &[u8]) -> Result<Progress<H>, Bytes>
     ensures sound { IfOk result IsSound }
+    ensures open { IfOk result IsOpen }
     ensures stands { MatchResult result
         (λ after. HasNoBlock front → IsAt H.comes_to H.size (front ++ piece.now) after)
         (λ after. after ≡ front) }
@@ -106,6 +109,7 @@ fn with_block<H: Head>(
 ) -> Result<Progress<H>, Bytes>
     requires { length block ≤ MAX_HEAD }
     ensures sound { IfOk result IsSound }
+    ensures open { IfOk result IsOpen }
     ensures begins { MatchResult result
         (Begins H.comes_to H.size block piece.now)
         (λ after. after ≡ take had block) }
@@ -124,6 +128,7 @@ fn with_block<H: Head>(
 fn begun<H: Head>(alloc: Global, block: &[u8], piece: &[u8]) -> Result<Progress<H>, NoMemory>
     requires { length block.now ≤ MAX_HEAD }
     ensures sound { IfOk result IsSound }
+    ensures open { IfOk result IsOpen }
     ensures begins { IfOk result (Begins H.comes_to H.size block.now piece.now) }
 {
     match H::read(alloc, block) {

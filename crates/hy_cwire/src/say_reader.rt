@@ -3,7 +3,7 @@
 ghost use Rattle.std.specs.Prelude.{◌≡◌, ◌≢◌, ◌++◌, ℕ, List, [], Err, IfOk};
 ghost use Rattle.hy_cwire.specs.declared.fault.HttpFault.TheVariants as faults;
 ghost use Rattle.hy_cwire.specs.declared.progress.Progress.TheVariants as stages;
-ghost use Rattle.hy_cwire.specs.Stages.{IsLive, answer_of, after_end, after_next};
+ghost use Rattle.hy_cwire.specs.Stages.{IsLive, IsOpen, answer_of, after_end, after_next};
 ghost use Rattle.hy_cwire.specs.Readers.{IsSayAt, say_body_size, next_say};
 
 use crate::bytes::Bytes;
@@ -56,6 +56,7 @@ impl SayReader {
         ensures stands { result ≢ Err faults.NoMemory → IsLive self.old.progress
             → (bytes : List ℕ) → IsSayAt bytes self.old.progress
             → IsSayAt (bytes ++ piece.now) self.new.progress }
+        ensures open { result ≢ Err faults.NoMemory → IsOpen self.old.progress → IsOpen self.new.progress }
         ensures broken { ¬ (IsLive self.old.progress) → self.new ≡ self.old }
         ensures memory { result ≡ Err faults.NoMemory → self.new ≡ self.old }
         ensures asked { self.new.asked ≡ self.old.asked }
