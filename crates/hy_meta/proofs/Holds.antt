@@ -1,43 +1,45 @@
--- What the rows and the waiting watches stand for, before and after a request.
-use Rattle.std.proofs.Common.{◌≡◌, ℕ, Bool, true, false, cond, not, List, [], ◌∷◌, Option, Some, None, Result, Ok, Err, refl, sym, ap, subst, ◌∙◌, inl, inr}
-use Rattle.std.specs.Prelude.{◌&&◌, ◌||◌, ◌⊎◌, filter, MatchOption, OnOk}
+-- What the rows and the waiting watches of the plain service keep of each key, before and after a request.
+use Rattle.std.proofs.Common.{◌≡◌, ℕ, true, false, cond, not, List, [], ◌∷◌, ◌++◌, Option, Some, None, Result, Ok, Err, refl, sym, ap, subst, ◌∙◌, inl, inr}
+use Rattle.std.specs.Prelude.{◌⊎◌, filter, map, MatchOption, IfOk, OnOk, OnErr}
+use Rattle.std.specs.Global.{Vec}
+use Rattle.hy_base.specs.declared.failure.NoMemory.{NoMemory}
+use Rattle.hy_record.specs.declared.message.MetaSay.{MetaSay}
+use Rattle.hy_record.specs.declared.message.MetaSay.TheVariants as says
+use Rattle.hy_meta.specs.Meta.{Says, GoesOn}
+use Rattle.hy_meta.proofs.Answering.{goes_on, answers-update, answers-watch}
 use Rattle.std.specs.Bool.{MatchBool}
-use Rattle.hy_record.specs.declared.message.MetaAsk.{MetaAsk}
 use Rattle.hy_record.specs.declared.message.MetaAsk.TheVariants as asks
-use Rattle.hy_record.specs.Stamp.{Timestamp, stamp_lt, stamp_eq}
+use Rattle.hy_record.specs.Stamp.{Timestamp, stamp_lt}
 use Rattle.hy_record.specs.Key.{key_eq}
 use Rattle.hy_record.specs.Record.{RecordValue}
-use Rattle.hy_record.proofs.Order.{key_eq-true, stamp_lt-other}
 use Rattle.hy_meta.specs.declared.rows.Row.{Row}
 use Rattle.hy_meta.specs.declared.watcher.Watcher.{Watcher}
-use Rattle.hy_meta.specs.Service.{stamp_of_record, outdates, has_stamp, insert_stamp}
-use Rattle.hy_meta.specs.Rows.{row_of, record_of_row, olds_of_row, record_in, olds_in, PutsRow, SameRows, AddsOld, superseded}
-use Rattle.hy_meta.specs.Held.{is_due}
-use Rattle.hy_meta.specs.Meta.{StandsFor}
-use Rattle.hy_meta.proofs.Rising.{cases_bool, has_stamp-insert, has_stamp-filter}
-use Rattle.hy_meta.proofs.Steps.{stands-new, stands-same, stands-refused, stands-applied, stands-forget}
+use Rattle.hy_meta.specs.Service.{stamp_of_record, has_stamp, insert_stamp}
+use Rattle.hy_meta.specs.Watches.{watches_on, fired}
+use Rattle.hy_meta.specs.Entry.{EntryValue, no_entry, olds_after, updated, watched, SameEntries, EntryBecomes, EntriesStandFor}
+use Rattle.hy_meta.specs.Rows.{row_of, record_of_row, olds_of_row, record_in, olds_in, PutsRow, SameRows, AddsOld, DropsOlds, superseded}
+use Rattle.hy_meta.specs.Held.{rows_entry, is_due}
+use Rattle.hy_meta.proofs.Rising.{cases_bool}
+use Rattle.hy_meta.proofs.Steps.{on-applied, on-push, on-due}
+use Rattle.hy_meta.proofs.Entries.{at_own, entry_by, updated-applied, updated-refused, watched-waits}
 
--- the rows and the waiting watches are those after these requests
-abbrev pub RowsServe : List Row → List Watcher → List MetaAsk → Type 0
-RowsServe rows watches served = StandsFor (λ key. record_in rows key) (λ key stamp. has_stamp (olds_in rows key) stamp) watches served
-
-pub cases_row : (o : Option Row) → (o ≡ None) ⊎ ((row : Row) × (o ≡ Some row))
+cases_row : (o : Option Row) → (o ≡ None) ⊎ ((row : Row) × (o ≡ Some row))
 cases_row None = inl refl
 cases_row (Some row) = inr (row, refl)
 
-pub serves-new : RowsServe [] [] []
-unfolding record_in olds_in row_of has_stamp
-serves-new = stands-new
-
 -- ---- rows
 
-pub same-record : (old new : List Row) → SameRows old new → (key : List ℕ) → record_in new key ≡ record_in old key
+same-record : (old new : List Row) → SameRows old new → (key : List ℕ) → record_in new key ≡ record_in old key
 unfolding record_in
 same-record old new same key = ap record_of_row (same key)
 
-pub same-olds : (old new : List Row) → SameRows old new → (key : List ℕ) (t : Timestamp) → has_stamp (olds_in new key) t ≡ has_stamp (olds_in old key) t
+same-olds : (old new : List Row) → SameRows old new → (key : List ℕ) → olds_in new key ≡ olds_in old key
 unfolding olds_in
-same-olds old new same key t = ap (λ (o : Option Row). has_stamp (olds_of_row o) t) (same key)
+same-olds old new same key = ap olds_of_row (same key)
+
+pub same-rows : (old new : List Row) (W W' : List Watcher) → SameRows old new → W' ≡ W → SameEntries (rows_entry old W) (rows_entry new W')
+same-rows old new W W' same watches key =
+    λ i. record { rec = same-record old new same key i; olds = same-olds old new same key i; watches = watches_on key (watches i) }
 
 puts-record : (old new : List Row) (k : List ℕ) (row : Row) → PutsRow old new k row → (key : List ℕ) → record_in new key ≡ cond (key_eq k key) (Some row.rec) (record_in old key)
 unfolding record_in
@@ -47,192 +49,164 @@ puts-record old new k row puts key =
       | inr other ↦ rw other refl
     ]
 
-puts-olds : (old new : List Row) (k : List ℕ) (row : Row) → PutsRow old new k row → (key : List ℕ) (t : Timestamp) → has_stamp (olds_in new key) t ≡ cond (key_eq k key) (has_stamp row.olds t) (has_stamp (olds_in old key) t)
+puts-olds : (old new : List Row) (k : List ℕ) (row : Row) → PutsRow old new k row → (key : List ℕ) → olds_in new key ≡ cond (key_eq k key) row.olds (olds_in old key)
 unfolding olds_in
-puts-olds old new k row puts key t =
-    ap (λ (o : Option Row). has_stamp (olds_of_row o) t) (puts key) ∙ elim (cases_bool (key_eq k key)) [
+puts-olds old new k row puts key =
+    ap olds_of_row (puts key) ∙ elim (cases_bool (key_eq k key)) [
       | inl here ↦ rw here refl
       | inr other ↦ rw other refl
     ]
 
 -- what the key's row is tells what is in it
-row-record : (rows : List Row) (key : List ℕ) → record_in rows key ≡ record_of_row (row_of rows key)
+row-record : (rows : List Row) (key : List ℕ) (o : Option Row) → row_of rows key ≡ o → record_in rows key ≡ record_of_row o
 unfolding record_in
-row-record rows key = refl
+row-record rows key o is = ap record_of_row is
 
-row-olds : (rows : List Row) (key : List ℕ) → olds_in rows key ≡ olds_of_row (row_of rows key)
+row-olds : (rows : List Row) (key : List ℕ) (o : Option Row) → row_of rows key ≡ o → olds_in rows key ≡ olds_of_row o
 unfolding olds_in
-row-olds rows key = refl
+row-olds rows key o is = ap olds_of_row is
 
 superseded-rec : (o : Option Row) (k : List ℕ) (r : RecordValue) → (superseded o k r).rec ≡ r
 superseded-rec None k r = refl
 superseded-rec (Some row) k r = refl
 
-held-only : (a b : Bool) → ((a && true) || (b && false)) ≡ a
-held-only true b = refl
-held-only false true = refl
-held-only false false = refl
+superseded-olds : (o : Option Row) (k : List ℕ) (r : RecordValue) → stamp_lt (stamp_of_record (record_of_row o)) r.stamp ≡ true → (superseded o k r).olds ≡ olds_after (record_of_row o) r.stamp (olds_of_row o)
+superseded-olds None k r above = refl
+superseded-olds (Some row) k r above = rw above refl
 
-own-only : (a b : Bool) → ((a && false) || (b && true)) ≡ b
-own-only true true = refl
-own-only true false = refl
-own-only false true = refl
-own-only false false = refl
+module _ (old new : List Row) (W W' : List Watcher) (client op : ℕ) (k : List ℕ) where
+  abbrev was : List ℕ → EntryValue
+  was = rows_entry old W
 
-neither-one : (a b : Bool) → ((a && false) || (b && false)) ≡ false
-neither-one true true = refl
-neither-one true false = refl
-neither-one false true = refl
-neither-one false false = refl
+  abbrev is : List ℕ → EntryValue
+  is = rows_entry new W'
 
-superseded-olds : (o : Option Row) (k : List ℕ) (r : RecordValue) (t : Timestamp) → stamp_lt (stamp_of_record (record_of_row o)) r.stamp ≡ true
-    → has_stamp (superseded o k r).olds t ≡ (outdates (record_of_row o) r.stamp t || has_stamp (olds_of_row o) t)
-unfolding outdates
-superseded-olds None k r t above = refl
-superseded-olds (Some row) k r t above =
-    let below : stamp_lt r.stamp row.rec.stamp ≡ false = stamp_lt-other row.rec.stamp r.stamp above in
-    has_stamp-insert row.rec.stamp row.olds t ∙ rw (above, below) (ap (λ (b : Bool). b || has_stamp row.olds t) (sym (held-only (stamp_eq row.rec.stamp t) (stamp_eq r.stamp t))))
+  -- where only the watches stay
+  becomes : (e : EntryValue) (key : List ℕ) → record_in new key ≡ cond (key_eq k key) e.rec (record_in old key) → olds_in new key ≡ cond (key_eq k key) e.olds (olds_in old key)
+      → watches_on key W' ≡ cond (key_eq k key) e.watches (watches_on key W) → is key ≡ cond (key_eq k key) e (was key)
+  becomes e key records olds watches =
+      entry_by (key_eq k key) e (was key) (record_in new key) (olds_in new key) (watches_on key W') records olds watches
 
--- what is told of the key that was put, and of the others
-at_key : (k key : List ℕ) (f : List ℕ → Bool) (new out : Bool) → new ≡ (out || f k) → cond (key_eq k key) new (f key) ≡ ((key_eq k key && out) || f key)
-at_key k key f new out is =
-    elim (cases_bool (key_eq k key)) [
-      | inl here ↦ rw here (is ∙ ap (λ (x : List ℕ). out || f x) (key_eq-true k key here))
-      | inr other ↦ rw other refl
-    ]
+  pub becomes-applied : (r : RecordValue) → stamp_lt (stamp_of_record (record_in old k)) r.stamp ≡ true → PutsRow old new k (superseded (row_of old k) k r) → W' ≡ filter (λ w. not (is_due k r.stamp w)) W → EntryBecomes was is (asks.Update client op k r)
+  becomes-applied r above puts watches key =
+      let row = superseded (row_of old k) k r in
+      let made = updated-applied (was k) r above in
+      let above_row : stamp_lt (stamp_of_record (record_of_row (row_of old k))) r.stamp ≡ true = ap (λ (o : Option RecordValue). stamp_lt (stamp_of_record o) r.stamp) (sym (row-record old k (row_of old k) refl)) ∙ above in
+      let olds : row.olds ≡ olds_after (record_in old k) r.stamp (olds_in old k) =
+      superseded-olds (row_of old k) k r above_row ∙ ap (λ (o : Option RecordValue). olds_after o r.stamp (olds_of_row (row_of old k))) (sym (row-record old k (row_of old k) refl))
+      ∙ ap (λ (xs : List Timestamp). olds_after (record_in old k) r.stamp xs) (sym (row-olds old k (row_of old k) refl)) in
+      becomes (updated (was k) r) key
+      (puts-record old new k row puts key ∙ ap (λ (x : RecordValue). cond (key_eq k key) (Some x) (record_in old key)) (superseded-rec (row_of old k) k r) ∙ ap (λ (e : EntryValue). cond (key_eq k key) e.rec (record_in old key)) (sym made))
+      (puts-olds old new k row puts key ∙ ap (λ (xs : List Timestamp). cond (key_eq k key) xs (olds_in old key)) olds ∙ ap (λ (e : EntryValue). cond (key_eq k key) e.olds (olds_in old key)) (sym made))
+      (ap (λ (ws : List Watcher). watches_on key ws) watches ∙ on-applied k key r.stamp W ∙ ap (λ (e : EntryValue). cond (key_eq k key) e.watches (watches_on key W)) (sym made))
 
-pub serves-applied : (old new : List Row) (W W' : List Watcher) (before : List MetaAsk) (client op : ℕ) (k : List ℕ) (r : RecordValue) → RowsServe old W before → stamp_lt (stamp_of_record (record_in old k)) r.stamp ≡ true
-    → PutsRow old new k (superseded (row_of old k) k r) → W' ≡ filter (λ w. not (is_due k r.stamp w)) W → RowsServe new W' (asks.Update client op k r ∷ before)
-serves-applied old new W W' before client op k r s above puts watches =
-    let row = superseded (row_of old k) k r in
-    let above_row : stamp_lt (stamp_of_record (record_of_row (row_of old k))) r.stamp ≡ true = ap (λ (o : Option RecordValue). stamp_lt (stamp_of_record o) r.stamp) (sym (row-record old k)) ∙ above in
-    let olds_row : (t : Timestamp) → has_stamp row.olds t ≡ (outdates (record_in old k) r.stamp t || has_stamp (olds_in old k) t) =
-    λ t. superseded-olds (row_of old k) k r t above_row ∙ ap (λ (o : Option RecordValue). outdates o r.stamp t || has_stamp (olds_of_row (row_of old k)) t) (sym (row-record old k))
-    ∙ ap (λ (xs : List Timestamp). outdates (record_in old k) r.stamp t || has_stamp xs t) (sym (row-olds old k)) in
-    stands-applied (λ key. record_in old key) (λ key t. has_stamp (olds_in old key) t) W before s client op k r (λ key. record_in new key) (λ key t. has_stamp (olds_in new key) t) W' above
-    (λ key. puts-record old new k row puts key ∙ ap (λ (x : RecordValue). cond (key_eq k key) (Some x) (record_in old key)) (superseded-rec (row_of old k) k r))
-    (λ key t. puts-olds old new k row puts key t ∙ at_key k key (λ x. has_stamp (olds_in old x) t) (has_stamp row.olds t) (outdates (record_in old k) r.stamp t) (olds_row t))
-    watches
+  -- the record and the watches of the key stay
+  olds-become : (olds : List Timestamp) → W' ≡ W → ((key : List ℕ) → record_in new key ≡ record_in old key) → ((key : List ℕ) → olds_in new key ≡ cond (key_eq k key) olds (olds_in old key))
+      → (key : List ℕ) → is key ≡ cond (key_eq k key) (record (was k) { olds = olds }) (was key)
+  olds-become olds same records set key =
+      becomes (record (was k) { olds = olds }) key
+      (records key ∙ sym (at_own k key (λ x. record_in old x)))
+      (set key)
+      (ap (λ (ws : List Watcher). watches_on key ws) same ∙ sym (at_own k key (λ x. watches_on x W)))
 
--- the key's record stays where only its superseded timestamps change
-kept-record : (old new : List Row) (k : List ℕ) (row : Row) (olds : List Timestamp) → row_of old k ≡ Some row → PutsRow old new k (record row { olds = olds }) → (key : List ℕ) → record_in new key ≡ record_in old key
-kept-record old new k row olds there puts key =
-    puts-record old new k (record row { olds = olds }) puts key ∙ elim (cases_bool (key_eq k key)) [
-      | inl here ↦
-          let held : record_in old key ≡ Some row.rec = ap (λ (x : List ℕ). record_in old x) (sym (key_eq-true k key here)) ∙ row-record old k ∙ ap record_of_row there in
-          rw (here, held) refl
-      | inr other ↦ rw other refl
-    ]
+  -- the key's row has other superseded timestamps
+  row-becomes : (row : Row) (olds : List Timestamp) → W' ≡ W → row_of old k ≡ Some row → PutsRow old new k (record row { olds = olds }) → (key : List ℕ) → is key ≡ cond (key_eq k key) (record (was k) { olds = olds }) (was key)
+  row-becomes row olds same there puts =
+      olds-become olds same
+      (λ key. puts-record old new k (record row { olds = olds }) puts key ∙ ap (λ (o : Option RecordValue). cond (key_eq k key) o (record_in old key)) (sym (row-record old k (Some row) there)) ∙ at_own k key (λ x. record_in old x))
+      (puts-olds old new k (record row { olds = olds }) puts)
 
-nothing-out : (a b : Bool) → b ≡ ((a && false) || b)
-nothing-out true b = refl
-nothing-out false b = refl
+  -- no row changes
+  rows-stay : (olds : List Timestamp) → W' ≡ W → SameRows old new → olds ≡ olds_in old k → (key : List ℕ) → is key ≡ cond (key_eq k key) (record (was k) { olds = olds }) (was key)
+  rows-stay olds same rows own =
+      olds-become olds same (same-record old new rows)
+      (λ key. same-olds old new rows key ∙ sym (at_own k key (λ x. olds_in old x)) ∙ ap (λ (xs : List Timestamp). cond (key_eq k key) xs (olds_in old key)) (sym own))
 
-outdates-none : (new t : Timestamp) → outdates None new t ≡ false
-unfolding outdates
-outdates-none new t = refl
+  pub becomes-refused : (r : RecordValue) → stamp_lt (stamp_of_record (record_in old k)) r.stamp ≡ false
+      → MatchBool (stamp_lt r.stamp (stamp_of_record (record_in old k))) (AddsOld old new k r.stamp) (SameRows old new) → W' ≡ W → EntryBecomes was is (asks.Update client op k r)
+  becomes-refused r below rows watches key =
+      let olds = olds_after (record_in old k) r.stamp (olds_in old k) in
+      let made : updated (was k) r ≡ record (was k) { olds = olds } = updated-refused (was k) r below in
+      let done : ((x : List ℕ) → is x ≡ cond (key_eq k x) (record (was k) { olds = olds }) (was x)) → is key ≡ cond (key_eq k key) (updated (was k) r) (was key) =
+      λ so. so key ∙ ap (λ (e : EntryValue). cond (key_eq k key) e (was key)) (sym made) in
+      elim (cases_row (row_of old k)) [
+        | inl absent ↦
+            let none : record_in old k ≡ None = row-record old k None absent in
+            let empty : olds ≡ olds_in old k = ap (λ (o : Option RecordValue). olds_after o r.stamp (olds_in old k)) none in
+            let same : SameRows old new = elim (cases_bool (stamp_lt r.stamp (stamp_of_record (record_in old k)))) [
+              | inl adds ↦ let added : AddsOld old new k r.stamp = rw adds at rows in subst (λ (o : Option Row). MatchOption o (SameRows old new) (λ x. PutsRow old new k (record x { olds = insert_stamp r.stamp x.olds }))) absent added
+              | inr equal ↦ rw equal at rows
+            ] in
+            done (rows-stay olds watches same empty)
+        | inr there ↦
+            let row = there.0 in
+            let held : record_in old k ≡ Some row.rec = row-record old k (Some row) there.1 in
+            let here : olds_in old k ≡ row.olds = row-olds old k (Some row) there.1 in
+            let lower : stamp_lt row.rec.stamp r.stamp ≡ false = ap (λ (o : Option RecordValue). stamp_lt (stamp_of_record o) r.stamp) (sym held) ∙ below in
+            let at_row : olds ≡ olds_after (Some row.rec) r.stamp row.olds = ap (λ (o : Option RecordValue). olds_after o r.stamp (olds_in old k)) held ∙ ap (λ (xs : List Timestamp). olds_after (Some row.rec) r.stamp xs) here in
+            elim (cases_bool (stamp_lt r.stamp (stamp_of_record (record_in old k)))) [
+              | inl adds ↦
+                  let added : AddsOld old new k r.stamp = rw adds at rows in
+                  let puts : PutsRow old new k (record row { olds = insert_stamp r.stamp row.olds }) = subst (λ (o : Option Row). MatchOption o (SameRows old new) (λ x. PutsRow old new k (record x { olds = insert_stamp r.stamp x.olds }))) there.1 added in
+                  let upper : stamp_lt r.stamp row.rec.stamp ≡ true = ap (λ (o : Option RecordValue). stamp_lt r.stamp (stamp_of_record o)) (sym held) ∙ adds in
+                  let set : olds ≡ insert_stamp r.stamp row.olds = at_row ∙ rw (lower, upper) refl in
+                  done (row-becomes row olds watches there.1 (subst (λ (xs : List Timestamp). PutsRow old new k (record row { olds = xs })) (sym set) puts))
+              | inr equal ↦
+                  let same : SameRows old new = rw equal at rows in
+                  let upper : stamp_lt r.stamp row.rec.stamp ≡ false = ap (λ (o : Option RecordValue). stamp_lt r.stamp (stamp_of_record o)) (sym held) ∙ equal in
+                  let set : olds ≡ row.olds = at_row ∙ rw (lower, upper) refl in
+                  done (rows-stay olds watches same (set ∙ sym here))
+            ]
+      ]
 
-outdates-own : (held : RecordValue) (new t : Timestamp) → stamp_lt held.stamp new ≡ false → stamp_lt new held.stamp ≡ true → outdates (Some held) new t ≡ stamp_eq new t
-unfolding outdates
-outdates-own held new t lower adds = rw (lower, adds) (own-only (stamp_eq held.stamp t) (stamp_eq new t))
+  pub becomes-forgot : (stamps : List Timestamp) → DropsOlds old new k stamps → W' ≡ W → EntryBecomes was is (asks.Forget client op k stamps)
+  becomes-forgot stamps rows watches =
+      let kept : List Timestamp → List Timestamp = λ olds. filter (λ stamp. not (has_stamp stamps stamp)) olds in
+      elim (cases_row (row_of old k)) [
+        | inl absent ↦
+            let same : SameRows old new = subst (λ (o : Option Row). MatchOption o (SameRows old new) (λ row. PutsRow old new k (record row { olds = kept row.olds }))) absent rows in
+            let empty : olds_in old k ≡ [] = row-olds old k None absent in
+            rows-stay (kept (olds_in old k)) watches same (ap kept empty ∙ sym empty)
+        | inr there ↦
+            let row = there.0 in
+            let puts : PutsRow old new k (record row { olds = kept row.olds }) = subst (λ (o : Option Row). MatchOption o (SameRows old new) (λ x. PutsRow old new k (record x { olds = kept x.olds }))) there.1 rows in
+            let here : olds_in old k ≡ row.olds = row-olds old k (Some row) there.1 in
+            row-becomes row (kept (olds_in old k)) watches there.1 (subst (λ (xs : List Timestamp). PutsRow old new k (record row { olds = kept xs })) (sym here) puts)
+      ]
 
-outdates-equal : (held : RecordValue) (new t : Timestamp) → stamp_lt held.stamp new ≡ false → stamp_lt new held.stamp ≡ false → outdates (Some held) new t ≡ false
-unfolding outdates
-outdates-equal held new t lower equal = rw (lower, equal) (neither-one (stamp_eq held.stamp t) (stamp_eq new t))
+-- a watch that waits is the last of all
+pub becomes-watched : (rows : List Row) (W W' : List Watcher) (client op : ℕ) (k : List ℕ) (stamp : Timestamp) → stamp_lt stamp (stamp_of_record (record_in rows k)) ≡ false
+    → W' ≡ W ++ record { client = client; op = op; key = k; stamp = stamp } ∷ [] → EntryBecomes (rows_entry rows W) (rows_entry rows W') (asks.Watch client op k stamp)
+becomes-watched rows W W' client op k stamp waits watches key =
+    let w : Watcher = record { client = client; op = op; key = k; stamp = stamp } in
+    let was : List ℕ → EntryValue = rows_entry rows W in
+    let made = watched-waits (was k) w waits in
+    entry_by (key_eq k key) (record (was k) { watches = watches_on k W ++ w ∷ [] }) (was key) (record_in rows key) (olds_in rows key) (watches_on key W')
+    (sym (at_own k key (λ x. record_in rows x)))
+    (sym (at_own k key (λ x. olds_in rows x)))
+    (ap (λ (ws : List Watcher). watches_on key ws) watches ∙ on-push k key W w refl)
+    ∙ ap (λ (e : EntryValue). cond (key_eq k key) e (was key)) (sym made)
 
-refused-absent : (old new : List Row) (k : List ℕ) (stamp held : Timestamp) → row_of old k ≡ None → MatchBool (stamp_lt stamp held) (AddsOld old new k stamp) (SameRows old new) → SameRows old new
-refused-absent old new k stamp held absent rows =
-    elim (cases_bool (stamp_lt stamp held)) [
-      | inl adds ↦ let added : AddsOld old new k stamp = rw adds at rows in subst (λ (o : Option Row). MatchOption o (SameRows old new) (λ x. PutsRow old new k (record x { olds = insert_stamp stamp x.olds }))) absent added
-      | inr other ↦ rw other at rows
-    ]
-
-pub has-none : (t : Timestamp) → has_stamp [] t ≡ false
-unfolding has_stamp
-has-none t = refl
-
-nothing-left : (a : Bool) → false ≡ (a && false)
-nothing-left true = refl
-nothing-left false = refl
-
-forgets-none : (k key : List ℕ) (f : List ℕ → Bool) (listed : Bool) → f k ≡ false → f key ≡ (not (key_eq k key && listed) && f key)
-forgets-none k key f listed empty =
-    elim (cases_bool (key_eq k key)) [
-      | inl here ↦
-          let none : f key ≡ false = ap f (sym (key_eq-true k key here)) ∙ empty in
-          rw (here, none) (nothing-left (not listed))
-      | inr other ↦ rw other refl
-    ]
-
-forgets-at : (k key : List ℕ) (f : List ℕ → Bool) (new listed : Bool) → new ≡ (not listed && f k) → cond (key_eq k key) new (f key) ≡ (not (key_eq k key && listed) && f key)
-forgets-at k key f new listed is =
-    elim (cases_bool (key_eq k key)) [
-      | inl here ↦ rw here (is ∙ ap (λ (x : List ℕ). not listed && f x) (key_eq-true k key here))
-      | inr other ↦ rw other refl
-    ]
-
-pub serves-refused : (old new : List Row) (W W' : List Watcher) (before : List MetaAsk) (client op : ℕ) (k : List ℕ) (r : RecordValue) → RowsServe old W before → stamp_lt (stamp_of_record (record_in old k)) r.stamp ≡ false
-    → MatchBool (stamp_lt r.stamp (stamp_of_record (record_in old k))) (AddsOld old new k r.stamp) (SameRows old new) → W' ≡ W → RowsServe new W' (asks.Update client op k r ∷ before)
-serves-refused old new W W' before client op k r s below rows watches =
-    let R : List ℕ → Option RecordValue = λ key. record_in old key in
-    let L : List ℕ → Timestamp → Bool = λ key t. has_stamp (olds_in old key) t in
-    let done : ((key : List ℕ) → record_in new key ≡ record_in old key) → ((key : List ℕ) (t : Timestamp) → has_stamp (olds_in new key) t ≡ ((key_eq k key && outdates (record_in old k) r.stamp t) || has_stamp (olds_in old key) t)) → RowsServe new W' (asks.Update client op k r ∷ before) =
-    λ records olds. subst (λ (ws : List Watcher). RowsServe new ws (asks.Update client op k r ∷ before)) (sym watches) (stands-refused R L W before s client op k r (λ key. record_in new key) (λ key t. has_stamp (olds_in new key) t) below records olds) in
-    let unchanged : SameRows old new → ((t : Timestamp) → outdates (record_in old k) r.stamp t ≡ false) → RowsServe new W' (asks.Update client op k r ∷ before) =
-    λ same none. done (same-record old new same) (λ key t. same-olds old new same key t ∙ nothing-out (key_eq k key) (has_stamp (olds_in old key) t) ∙ ap (λ (b : Bool). (key_eq k key && b) || has_stamp (olds_in old key) t) (sym (none t))) in
-    elim (cases_row (row_of old k)) [
-      | inl absent ↦
-          let none : record_in old k ≡ None = row-record old k ∙ ap record_of_row absent in
-          unchanged (refused-absent old new k r.stamp (stamp_of_record (record_in old k)) absent rows) (λ t. ap (λ (o : Option RecordValue). outdates o r.stamp t) none ∙ outdates-none r.stamp t)
-      | inr there ↦
-          let row = there.0 in
-          let held : record_in old k ≡ Some row.rec = row-record old k ∙ ap record_of_row there.1 in
-          let here : olds_in old k ≡ row.olds = row-olds old k ∙ ap olds_of_row there.1 in
-          let lower : stamp_lt row.rec.stamp r.stamp ≡ false = ap (λ (o : Option RecordValue). stamp_lt (stamp_of_record o) r.stamp) (sym held) ∙ below in
-          let at_row : MatchBool (stamp_lt r.stamp row.rec.stamp) (AddsOld old new k r.stamp) (SameRows old new) = subst (λ (o : Option RecordValue). MatchBool (stamp_lt r.stamp (stamp_of_record o)) (AddsOld old new k r.stamp) (SameRows old new)) held rows in
-          elim (cases_bool (stamp_lt r.stamp row.rec.stamp)) [
-            | inl adds ↦
-                let added : AddsOld old new k r.stamp = rw adds at at_row in
-                let puts : PutsRow old new k (record row { olds = insert_stamp r.stamp row.olds }) = subst (λ (o : Option Row). MatchOption o (SameRows old new) (λ x. PutsRow old new k (record x { olds = insert_stamp r.stamp x.olds }))) there.1 added in
-                let out : (t : Timestamp) → has_stamp (insert_stamp r.stamp row.olds) t ≡ (outdates (record_in old k) r.stamp t || has_stamp (olds_in old k) t) =
-                λ t. has_stamp-insert r.stamp row.olds t ∙ ap (λ (b : Bool). b || has_stamp row.olds t) (sym (outdates-own row.rec r.stamp t lower adds)) ∙ ap (λ (o : Option RecordValue). outdates o r.stamp t || has_stamp row.olds t) (sym held) ∙ ap (λ (xs : List Timestamp). outdates (record_in old k) r.stamp t || has_stamp xs t) (sym here) in
-                done (kept-record old new k row (insert_stamp r.stamp row.olds) there.1 puts)
-                (λ key t. puts-olds old new k (record row { olds = insert_stamp r.stamp row.olds }) puts key t ∙ at_key k key (λ x. has_stamp (olds_in old x) t) (has_stamp (insert_stamp r.stamp row.olds) t) (outdates (record_in old k) r.stamp t) (out t))
-            | inr equal ↦ unchanged (rw equal at at_row) (λ t. ap (λ (o : Option RecordValue). outdates o r.stamp t) held ∙ outdates-equal row.rec r.stamp t lower equal)
-          ]
-    ]
-
-pub serves-forget : (old new : List Row) (W : List Watcher) (before : List MetaAsk) (client op : ℕ) (k : List ℕ) (stamps : List Timestamp) → RowsServe old W before
-    → MatchOption (row_of old k) (SameRows old new) (λ row. PutsRow old new k (record row { olds = filter (λ stamp. not (has_stamp stamps stamp)) row.olds })) → RowsServe new W (asks.Forget client op k stamps ∷ before)
-serves-forget old new W before client op k stamps s rows =
-    let R : List ℕ → Option RecordValue = λ key. record_in old key in
-    let L : List ℕ → Timestamp → Bool = λ key t. has_stamp (olds_in old key) t in
-    let done : ((key : List ℕ) → record_in new key ≡ record_in old key) → ((key : List ℕ) (t : Timestamp) → has_stamp (olds_in new key) t ≡ (not (key_eq k key && has_stamp stamps t) && has_stamp (olds_in old key) t)) → RowsServe new W (asks.Forget client op k stamps ∷ before) =
-    λ records olds. stands-forget R L W before s client op k stamps (λ key. record_in new key) (λ key t. has_stamp (olds_in new key) t) records olds in
-    elim (cases_row (row_of old k)) [
-      | inl absent ↦
-          let same : SameRows old new = subst (λ (o : Option Row). MatchOption o (SameRows old new) (λ row. PutsRow old new k (record row { olds = filter (λ stamp. not (has_stamp stamps stamp)) row.olds }))) absent rows in
-          let empty : (t : Timestamp) → has_stamp (olds_in old k) t ≡ false = λ t. ap (λ (xs : List Timestamp). has_stamp xs t) (row-olds old k ∙ ap olds_of_row absent) ∙ has-none t in
-          done (same-record old new same) (λ key t. same-olds old new same key t ∙ forgets-none k key (λ x. has_stamp (olds_in old x) t) (has_stamp stamps t) (empty t))
-      | inr there ↦
-          let row = there.0 in
-          let kept : List Timestamp = filter (λ stamp. not (has_stamp stamps stamp)) row.olds in
-          let puts : PutsRow old new k (record row { olds = kept }) = subst (λ (o : Option Row). MatchOption o (SameRows old new) (λ x. PutsRow old new k (record x { olds = filter (λ stamp. not (has_stamp stamps stamp)) x.olds }))) there.1 rows in
-          let here : olds_in old k ≡ row.olds = row-olds old k ∙ ap olds_of_row there.1 in
-          let left : (t : Timestamp) → has_stamp kept t ≡ (not (has_stamp stamps t) && has_stamp (olds_in old k) t) = λ t. has_stamp-filter (λ stamp. not (has_stamp stamps stamp)) row.olds t ∙ ap (λ (xs : List Timestamp). not (has_stamp stamps t) && has_stamp xs t) (sym here) in
-          done (kept-record old new k row kept there.1 puts) (λ key t. puts-olds old new k (record row { olds = kept }) puts key t ∙ forgets-at k key (λ x. has_stamp (olds_in old x) t) (has_stamp kept t) (has_stamp stamps t) (left t))
-    ]
-
-pub serves-empty : (rows : List Row) (W : List Watcher) → rows ≡ [] → W ≡ [] → RowsServe rows W []
-serves-empty rows W no_rows no_watches = rw (no_rows, no_watches) serves-new
-
-pub serves-same : (old new : List Row) (W W' : List Watcher) (before : List MetaAsk) → SameRows old new → W' ≡ W → RowsServe old W before → RowsServe new W' before
-serves-same old new W W' before same watches s =
-    stands-same (λ key. record_in old key) (λ key t. has_stamp (olds_in old key) t) W before s (λ key. record_in new key) (λ key t. has_stamp (olds_in new key) t) W' (same-record old new same) (same-olds old new same) watches
+-- a watch that is due changes nothing
+pub becomes-due : (rows : List Row) (W : List Watcher) (client op : ℕ) (k : List ℕ) (stamp : Timestamp) → stamp_lt stamp (stamp_of_record (record_in rows k)) ≡ true
+    → EntryBecomes (rows_entry rows W) (rows_entry rows W) (asks.Watch client op k stamp)
+becomes-due rows W client op k stamp due key =
+    let w : Watcher = record { client = client; op = op; key = k; stamp = stamp } in
+    let was : List ℕ → EntryValue = rows_entry rows W in
+    let same : watched (was k) w ≡ was k = rw due refl in
+    sym (at_own k key was) ∙ ap (λ (e : EntryValue). cond (key_eq k key) e (was key)) (sym same)
 
 pub on_any : {A E P : Type 0} (r : Result A E) → P → OnOk r P
 on_any (Ok x) p = p
 on_any (Err e) p = tt
+
+pub on_any_err : {A E P : Type 0} (r : Result A E) → P → OnErr r P
+on_any_err (Ok x) p = tt
+on_any_err (Err e) p = p
+
+pub has-none : (t : Timestamp) → has_stamp [] t ≡ false
+unfolding has_stamp
+has-none t = refl
 
 -- the record and the superseded timestamps of a key whose row is known
 pub record_from : (rows : List Row) (key : List ℕ) (o : Option Row) → o ≡ row_of rows key → record_of_row o ≡ record_in rows key
@@ -242,3 +216,65 @@ record_from rows key o is = ap record_of_row is
 pub olds_from : (rows : List Row) (key : List ℕ) (o : Option Row) → o ≡ row_of rows key → olds_of_row o ≡ olds_in rows key
 unfolding olds_in
 olds_from rows key o is = ap olds_of_row is
+
+pub no-rows : (rows : List Row) (W : List Watcher) (key : List ℕ) → rows ≡ [] → W ≡ [] → rows_entry rows W key ≡ no_entry
+unfolding record_in olds_in row_of
+no-rows rows W key none empty = rw (none, empty) refl
+
+-- ---- answers
+
+abbrev Answer : Type 0
+Answer = Result (Vec MetaSay) NoMemory
+
+module _ (old : List Row) (W : List Watcher) (client op : ℕ) (k : List ℕ) where
+  pub answers-applied : (r : RecordValue) (result : Answer) → stamp_lt (stamp_of_record (record_in old k)) r.stamp ≡ true
+      → IfOk result (λ sent. sent.items ≡ says.Applied client op k r.stamp ∷ map fired (filter (λ w. is_due k r.stamp w) W)) → Says (EntriesStandFor (rows_entry old W)) (asks.Update client op k r) result
+  answers-applied r (Ok sent) above is =
+      answers-update (rows_entry old W) client op k r (Ok sent) (rw above (is ∙ ap (λ (ws : List Watcher). says.Applied client op k r.stamp ∷ map fired ws) (sym (on-due k r.stamp W))))
+  answers-applied r (Err e) above is = tt
+
+  pub answers-kept : (r : RecordValue) (held : Timestamp) (result : Answer) → held ≡ stamp_of_record (record_in old k) → stamp_lt (stamp_of_record (record_in old k)) r.stamp ≡ false
+      → IfOk result (λ sent. sent.items ≡ says.Kept client op k held ∷ []) → Says (EntriesStandFor (rows_entry old W)) (asks.Update client op k r) result
+  answers-kept r held (Ok sent) at_it below is =
+      answers-update (rows_entry old W) client op k r (Ok sent) (rw below (is ∙ ap (λ (t : Timestamp). says.Kept client op k t ∷ []) at_it))
+  answers-kept r held (Err e) at_it below is = tt
+
+  pub answers-due : (stamp held : Timestamp) (result : Answer) → held ≡ stamp_of_record (record_in old k) → stamp_lt stamp held ≡ true
+      → IfOk result (λ sent. sent.items ≡ says.Fired client op k stamp ∷ []) → Says (EntriesStandFor (rows_entry old W)) (asks.Watch client op k stamp) result
+  answers-due stamp held (Ok sent) at_it due is =
+      let here : stamp_lt stamp (stamp_of_record (record_in old k)) ≡ true = ap (λ (t : Timestamp). stamp_lt stamp t) (sym at_it) ∙ due in
+      answers-watch (rows_entry old W) client op k stamp (Ok sent) (rw here is)
+  answers-due stamp held (Err e) at_it due is = tt
+
+  pub answers-waits : (stamp held : Timestamp) (sent : Vec MetaSay) → held ≡ stamp_of_record (record_in old k) → stamp_lt stamp held ≡ false → sent.items ≡ [] → Says (EntriesStandFor (rows_entry old W)) (asks.Watch client op k stamp) (Ok sent)
+  answers-waits stamp held sent at_it waits is =
+      let here : stamp_lt stamp (stamp_of_record (record_in old k)) ≡ false = ap (λ (t : Timestamp). stamp_lt stamp t) (sym at_it) ∙ waits in
+      answers-watch (rows_entry old W) client op k stamp (Ok sent) (rw here is)
+
+  pub goes-applied : (new : List Row) (W' : List Watcher) (r : RecordValue) (result : Answer) → stamp_lt (stamp_of_record (record_in old k)) r.stamp ≡ true
+      → OnOk result (PutsRow old new k (superseded (row_of old k) k r)) → OnOk result (W' ≡ filter (λ w. not (is_due k r.stamp w)) W) → OnErr result (SameRows old new) → OnErr result (W' ≡ W)
+      → GoesOn (EntriesStandFor (rows_entry old W)) (EntriesStandFor (rows_entry new W')) (asks.Update client op k r) result
+  goes-applied new W' r (Ok sent) above puts watches rows_stay watches_stay =
+      goes_on (rows_entry old W) (rows_entry new W') (asks.Update client op k r) (Ok sent) (becomes-applied old new W W' client op k r above puts watches) tt
+  goes-applied new W' r (Err e) above puts watches rows_stay watches_stay =
+      goes_on (rows_entry old W) (rows_entry new W') (asks.Update client op k r) (Err e) tt (same-rows old new W W' rows_stay watches_stay)
+
+  pub goes-kept : (new : List Row) (W' : List Watcher) (r : RecordValue) (held : Timestamp) (result : Answer) → held ≡ stamp_of_record (record_in old k) → stamp_lt (stamp_of_record (record_in old k)) r.stamp ≡ false
+      → OnOk result (MatchBool (stamp_lt r.stamp held) (AddsOld old new k r.stamp) (SameRows old new)) → OnErr result (SameRows old new) → W' ≡ W
+      → GoesOn (EntriesStandFor (rows_entry old W)) (EntriesStandFor (rows_entry new W')) (asks.Update client op k r) result
+  goes-kept new W' r held (Ok sent) at_it below rows err watches =
+      let there : MatchBool (stamp_lt r.stamp (stamp_of_record (record_in old k))) (AddsOld old new k r.stamp) (SameRows old new) = rw at_it at rows in
+      goes_on (rows_entry old W) (rows_entry new W') (asks.Update client op k r) (Ok sent) (becomes-refused old new W W' client op k r below there watches) tt
+  goes-kept new W' r held (Err e) at_it below rows err watches =
+      goes_on (rows_entry old W) (rows_entry new W') (asks.Update client op k r) (Err e) tt (same-rows old new W W' err watches)
+
+  pub goes-due : (stamp held : Timestamp) (result : Answer) → held ≡ stamp_of_record (record_in old k) → stamp_lt stamp held ≡ true → GoesOn (EntriesStandFor (rows_entry old W)) (EntriesStandFor (rows_entry old W)) (asks.Watch client op k stamp) result
+  goes-due stamp held result at_it due =
+      let here : stamp_lt stamp (stamp_of_record (record_in old k)) ≡ true = ap (λ (t : Timestamp). stamp_lt stamp t) (sym at_it) ∙ due in
+      goes_on (rows_entry old W) (rows_entry old W) (asks.Watch client op k stamp) result (on_any result (becomes-due old W client op k stamp here)) (on_any_err result (λ key. refl))
+
+  pub goes-waits : (W' : List Watcher) (stamp held : Timestamp) (sent : Vec MetaSay) → held ≡ stamp_of_record (record_in old k) → stamp_lt stamp held ≡ false → W' ≡ W ++ record { client = client; op = op; key = k; stamp = stamp } ∷ []
+      → GoesOn (EntriesStandFor (rows_entry old W)) (EntriesStandFor (rows_entry old W')) (asks.Watch client op k stamp) (Ok sent)
+  goes-waits W' stamp held sent at_it waits is =
+      let here : stamp_lt stamp (stamp_of_record (record_in old k)) ≡ false = ap (λ (t : Timestamp). stamp_lt stamp t) (sym at_it) ∙ waits in
+      goes_on (rows_entry old W) (rows_entry old W') (asks.Watch client op k stamp) (Ok sent) (becomes-watched old W W' client op k stamp here is) tt

@@ -1,8 +1,12 @@
 pub mod Rising
 pub mod Places
 pub mod Steps
-pub mod Holds
+pub mod Sets
+pub mod Entries
+pub mod Maps
 pub mod Answering
+pub mod Turns
+pub mod Holds
 pub mod Lasting
 pub mod Once
 pub mod Least

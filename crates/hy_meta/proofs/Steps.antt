@@ -1,11 +1,10 @@
--- One request more: what each kind of request changes in the parts of a service, and what it is answered.
+-- One request more: what each kind of request changes in the records, the superseded timestamps and the watches.
 use Rattle.std.proofs.Common.{◌≡◌, ℕ, Bool, true, false, cond, not, List, [], ◌∷◌, ◌++◌, take, Option, Some, None, refl, sym, ap, ◌∙◌, inl, inr}
-use Rattle.std.specs.Prelude.{◌&&◌, ◌||◌, ◌⊎◌, filter, map}
+use Rattle.std.specs.Prelude.{◌&&◌, ◌||◌, ◌⊎◌, filter}
 use Rattle.std.proofs.lemmas.Bool.{false≢true}
 use Rattle.std.proofs.lemmas.List.{append-nil}
 use Rattle.hy_record.specs.declared.message.MetaAsk.{MetaAsk}
 use Rattle.hy_record.specs.declared.message.MetaAsk.TheVariants as asks
-use Rattle.hy_record.specs.declared.message.MetaSay.TheVariants as says
 use Rattle.hy_record.specs.Stamp.{Timestamp, stamp_lt, stamp_eq}
 use Rattle.hy_record.specs.Stamps.{is_rising}
 use Rattle.hy_record.specs.Key.{key_eq}
@@ -13,8 +12,7 @@ use Rattle.hy_record.specs.Record.{RecordValue}
 use Rattle.hy_record.proofs.Order.{key_eq-true, key_eq-same, stamp_eq-true, stamp_eq-same, stamp_lt-trans}
 use Rattle.hy_meta.specs.declared.watcher.Watcher.{Watcher}
 use Rattle.hy_meta.specs.Service.{stamp_of_record, record_after, record_stamp, outdates, has_stamp, is_old, known_stamps, old_list}
-use Rattle.hy_meta.specs.Watches.{watches_of, is_passed, fired_watches, is_waiting, fired}
-use Rattle.hy_meta.specs.Meta.{service_answers, StandsFor}
+use Rattle.hy_meta.specs.Watches.{watches_of, is_passed, is_waiting, waiting_watches, watches_on}
 use Rattle.hy_meta.specs.Held.{is_due}
 use Rattle.hy_meta.proofs.Rising.{cases_bool, both, rising-insert, rising-filter, rising-same, has_stamp-insert, has_stamp-filter}
 
@@ -39,7 +37,7 @@ filter-push p (v ∷ ws) w =
       | inr fails ↦ rw fails (filter-push p ws w)
     ]
 
-key_eq-other : (a b : List ℕ) → key_eq a b ≡ false → key_eq b a ≡ false
+pub key_eq-other : (a b : List ℕ) → key_eq a b ≡ false → key_eq b a ≡ false
 key_eq-other a b apart =
     elim (cases_bool (key_eq b a)) [
       | inl same ↦ absurd (false≢true (sym apart ∙ ap (λ (x : List ℕ). key_eq x b) (sym (key_eq-true b a same)) ∙ key_eq-same b))
@@ -219,123 +217,71 @@ old_list-rising served key olds rising same =
     let has : (s : Timestamp) → has_stamp olds s ≡ has_stamp listed s = λ s. same s ∙ if-true (is_old served key s) (has_stamp known s) (old-known served key s) ∙ sym (has_stamp-filter (λ t. is_old served key t) known s) in
     ap (λ (xs : List Timestamp). take 256 xs) (rising-same olds listed rising (rising-filter (λ s. is_old served key s) known (known-rising served key)) has)
 
-outdated-here : (k key : List ℕ) (R : List ℕ → Option RecordValue) (A : List ℕ → Option RecordValue) (new s : Timestamp) → ((x : List ℕ) → R x ≡ A x) → (key_eq k key && outdates (R k) new s) ≡ (key_eq k key && outdates (A key) new s)
+pub outdated-here : (k key : List ℕ) (R : List ℕ → Option RecordValue) (A : List ℕ → Option RecordValue) (new s : Timestamp) → ((x : List ℕ) → R x ≡ A x) → (key_eq k key && outdates (R k) new s) ≡ (key_eq k key && outdates (A key) new s)
 outdated-here k key R A new s same =
     elim (cases_bool (key_eq k key)) [
       | inl here ↦ rw here (ap (λ (o : Option RecordValue). outdates o new s) (same k ∙ ap A (key_eq-true k key here)))
       | inr other ↦ rw other refl
     ]
 
-module _ (R : List ℕ → Option RecordValue) (L : List ℕ → Timestamp → Bool) (W : List Watcher) (before : List MetaAsk) (s : StandsFor R L W before) where
-  pub stands-same : (R' : List ℕ → Option RecordValue) (L' : List ℕ → Timestamp → Bool) (W' : List Watcher) → ((key : List ℕ) → R' key ≡ R key) → ((key : List ℕ) (t : Timestamp) → L' key t ≡ L key t) → W' ≡ W → StandsFor R' L' W' before
-  stands-same R' L' W' records olds watches = record { records = λ key. records key ∙ s.records key; olds = λ key t. olds key t ∙ s.olds key t; watches = watches ∙ s.watches }
+-- ---- the list of waiting watches
 
-  pub stands-read : (client op : ℕ) (k : List ℕ) → StandsFor R L W (asks.Read client op k ∷ before)
-  unfolding record_after is_old is_waiting watches_of record_stamp
-  stands-read client op k = record { records = s.records; olds = s.olds; watches = s.watches }
+pub waiting-applied : (before : List MetaAsk) (client op : ℕ) (k : List ℕ) (r : RecordValue) → stamp_lt (stamp_of_record (record_after before k)) r.stamp ≡ true
+    → waiting_watches (asks.Update client op k r ∷ before) ≡ filter (λ w. not (is_due k r.stamp w)) (waiting_watches before)
+unfolding watches_of
+waiting-applied before client op k r above =
+    filter-same (λ w. is_waiting (asks.Update client op k r ∷ before) w) (λ w. is_waiting before w && not (is_due k r.stamp w)) (λ w. is_waiting-applied before client op k r w above) (watches_of before)
+    ∙ sym (filter-twice (λ w. not (is_due k r.stamp w)) (λ w. is_waiting before w) (watches_of before))
 
-  pub stands-olds : (client op : ℕ) (k : List ℕ) → StandsFor R L W (asks.Olds client op k ∷ before)
-  unfolding record_after is_old is_waiting watches_of record_stamp
-  stands-olds client op k = record { records = s.records; olds = s.olds; watches = s.watches }
+pub waiting-refused : (before : List MetaAsk) (client op : ℕ) (k : List ℕ) (r : RecordValue) → stamp_lt (stamp_of_record (record_after before k)) r.stamp ≡ false
+    → waiting_watches (asks.Update client op k r ∷ before) ≡ waiting_watches before
+unfolding watches_of
+waiting-refused before client op k r below =
+    sym (filter-same (λ w. is_waiting before w) (λ w. is_waiting (asks.Update client op k r ∷ before) w) (λ w. is_waiting-refused before client op k r w below) (watches_of before))
 
-  pub stands-due : (client op : ℕ) (k : List ℕ) (stamp : Timestamp) → stamp_lt stamp (stamp_of_record (R k)) ≡ true → StandsFor R L W (asks.Watch client op k stamp ∷ before)
-  unfolding record_after is_old is_waiting watches_of record_stamp
-  stands-due client op k stamp due =
-      let w : Watcher = record { client = client; op = op; key = k; stamp = stamp } in
-      let test : Watcher → Bool = λ w. not (stamp_lt w.stamp (stamp_of_record (record_after before w.key))) in
-      let fails : test w ≡ false = ap (λ (o : Option RecordValue). not (stamp_lt stamp (stamp_of_record o))) (sym (s.records k)) ∙ ap not due in
-      let last : cond (test w) (w ∷ []) [] ≡ [] = ap (λ (b : Bool). cond b (w ∷ []) []) fails in
-      record { records = s.records; olds = s.olds; watches = s.watches ∙ sym (filter-push test (watches_of before) w ∙ ap (λ (ws : List Watcher). filter test (watches_of before) ++ ws) last ∙ append-nil (filter test (watches_of before))) }
+pub waiting-watch : (before : List MetaAsk) (client op : ℕ) (k : List ℕ) (stamp : Timestamp) (b : Bool) → stamp_lt stamp (stamp_of_record (record_after before k)) ≡ b
+    → waiting_watches (asks.Watch client op k stamp ∷ before) ≡ waiting_watches before ++ cond (not b) (record { client = client; op = op; key = k; stamp = stamp } ∷ []) []
+unfolding record_after is_waiting watches_of record_stamp
+waiting-watch before client op k stamp b is =
+    let w : Watcher = record { client = client; op = op; key = k; stamp = stamp } in
+    let test : Watcher → Bool = λ v. not (stamp_lt v.stamp (stamp_of_record (record_after before v.key))) in
+    filter-push test (watches_of before) w ∙ ap (λ (t : Bool). filter test (watches_of before) ++ cond (not t) (w ∷ []) []) is
 
-  pub stands-waits : (client op : ℕ) (k : List ℕ) (stamp : Timestamp) → stamp_lt stamp (stamp_of_record (R k)) ≡ false
-      → StandsFor R L (W ++ record { client = client; op = op; key = k; stamp = stamp } ∷ []) (asks.Watch client op k stamp ∷ before)
-  unfolding record_after is_old is_waiting watches_of record_stamp
-  stands-waits client op k stamp waits =
-      let w : Watcher = record { client = client; op = op; key = k; stamp = stamp } in
-      let test : Watcher → Bool = λ w. not (stamp_lt w.stamp (stamp_of_record (record_after before w.key))) in
-      let passes : test w ≡ true = ap (λ (o : Option RecordValue). not (stamp_lt stamp (stamp_of_record o))) (sym (s.records k)) ∙ ap not waits in
-      let last : cond (test w) (w ∷ []) [] ≡ w ∷ [] = ap (λ (b : Bool). cond b (w ∷ []) []) passes in
-      record { records = s.records; olds = s.olds; watches = ap (λ (ws : List Watcher). ws ++ w ∷ []) s.watches ∙ sym (filter-push test (watches_of before) w ∙ ap (λ (ws : List Watcher). filter test (watches_of before) ++ ws) last) }
+-- ---- the watches of a key
 
-  pub stands-forget : (client op : ℕ) (k : List ℕ) (stamps : List Timestamp) (R' : List ℕ → Option RecordValue) (L' : List ℕ → Timestamp → Bool) → ((key : List ℕ) → R' key ≡ R key)
-      → ((key : List ℕ) (t : Timestamp) → L' key t ≡ (not (key_eq k key && has_stamp stamps t) && L key t)) → StandsFor R' L' W (asks.Forget client op k stamps ∷ before)
-  unfolding record_after is_old is_waiting watches_of record_stamp
-  stands-forget client op k stamps R' L' records olds =
-      record { records = λ key. records key ∙ s.records key; olds = λ key t. olds key t ∙ ap (λ (b : Bool). not (key_eq k key && has_stamp stamps t) && b) (s.olds key t); watches = s.watches }
+pub on-due : (k : List ℕ) (stamp : Timestamp) (ws : List Watcher) → filter (λ w. stamp_lt w.stamp stamp) (watches_on k ws) ≡ filter (λ w. is_due k stamp w) ws
+unfolding is_due
+on-due k stamp ws = filter-twice (λ w. stamp_lt w.stamp stamp) (λ w. key_eq w.key k) ws
 
-  -- what is superseded after an update
-  olds-update : (client op : ℕ) (k : List ℕ) (r : RecordValue) (key : List ℕ) (t : Timestamp) → ((key_eq k key && outdates (R k) r.stamp t) || L key t) ≡ is_old (asks.Update client op k r ∷ before) key t
-  unfolding is_old
-  olds-update client op k r key t =
-      ap (λ (b : Bool). b || L key t) (outdated-here k key R (λ x. record_after before x) r.stamp t s.records) ∙ ap (λ (b : Bool). (key_eq k key && outdates (record_after before key) r.stamp t) || b) (s.olds key t)
+not-both : (a b : Bool) → (not (a && b) && a) ≡ (a && not b)
+not-both true true = refl
+not-both true false = refl
+not-both false b = refl
 
-  held-is : (k : List ℕ) (t : Timestamp) (b : Bool) → stamp_lt (stamp_of_record (R k)) t ≡ b → stamp_lt (stamp_of_record (record_after before k)) t ≡ b
-  held-is k t b e = ap (λ (o : Option RecordValue). stamp_lt (stamp_of_record o) t) (sym (s.records k)) ∙ e
+off-key : (a b c : Bool) → (c ≡ true → a ≡ false) → (not (a && b) && c) ≡ c
+off-key a b true apart = rw (apart refl) refl
+off-key a b false apart = and-nothing (not (a && b))
 
-  pub stands-refused : (client op : ℕ) (k : List ℕ) (r : RecordValue) (R' : List ℕ → Option RecordValue) (L' : List ℕ → Timestamp → Bool) → stamp_lt (stamp_of_record (R k)) r.stamp ≡ false → ((key : List ℕ) → R' key ≡ R key)
-      → ((key : List ℕ) (t : Timestamp) → L' key t ≡ ((key_eq k key && outdates (R k) r.stamp t) || L key t)) → StandsFor R' L' W (asks.Update client op k r ∷ before)
-  unfolding watches_of
-  stands-refused client op k r R' L' below records olds =
-      let held = held-is k r.stamp false below in
-      record {
-        records = λ key. records key ∙ s.records key ∙ sym (record_after-refused before client op k r key held);
-        olds = λ key t. olds key t ∙ olds-update client op k r key t;
-        watches = s.watches ∙ filter-same (λ w. is_waiting before w) (λ w. is_waiting (asks.Update client op k r ∷ before) w) (λ w. is_waiting-refused before client op k r w held) (watches_of before);
-      }
+pub on-applied : (k key : List ℕ) (stamp : Timestamp) (ws : List Watcher)
+    → watches_on key (filter (λ w. not (is_due k stamp w)) ws) ≡ cond (key_eq k key) (filter (λ w. not (stamp_lt w.stamp stamp)) (watches_on k ws)) (watches_on key ws)
+unfolding is_due
+on-applied k key stamp ws =
+    elim (cases_bool (key_eq k key)) [
+      | inl here ↦
+          let own : k ≡ key = key_eq-true k key here in
+          let left = filter-twice (λ w. key_eq w.key k) (λ w. not (is_due k stamp w)) ws in
+          let right = filter-twice (λ w. not (stamp_lt w.stamp stamp)) (λ w. key_eq w.key k) ws in
+          let same = filter-same (λ w. not (is_due k stamp w) && key_eq w.key k) (λ w. key_eq w.key k && not (stamp_lt w.stamp stamp)) (λ w. not-both (key_eq w.key k) (stamp_lt w.stamp stamp)) ws in
+          rw here (ap (λ (x : List ℕ). watches_on x (filter (λ w. not (is_due k stamp w)) ws)) (sym own) ∙ left ∙ same ∙ sym right)
+      | inr other ↦
+          let apart : (w : Watcher) → key_eq w.key key ≡ true → key_eq w.key k ≡ false = λ w of. ap (λ (x : List ℕ). key_eq x k) (key_eq-true w.key key of) ∙ key_eq-other k key other in
+          rw other (filter-twice (λ w. key_eq w.key key) (λ w. not (is_due k stamp w)) ws
+          ∙ filter-same (λ w. not (is_due k stamp w) && key_eq w.key key) (λ w. key_eq w.key key) (λ w. off-key (key_eq w.key k) (stamp_lt w.stamp stamp) (key_eq w.key key) (apart w)) ws)
+    ]
 
-  pub stands-applied : (client op : ℕ) (k : List ℕ) (r : RecordValue) (R' : List ℕ → Option RecordValue) (L' : List ℕ → Timestamp → Bool) (W' : List Watcher) → stamp_lt (stamp_of_record (R k)) r.stamp ≡ true
-      → ((key : List ℕ) → R' key ≡ cond (key_eq k key) (Some r) (R key)) → ((key : List ℕ) (t : Timestamp) → L' key t ≡ ((key_eq k key && outdates (R k) r.stamp t) || L key t))
-      → W' ≡ filter (λ w. not (is_due k r.stamp w)) W → StandsFor R' L' W' (asks.Update client op k r ∷ before)
-  unfolding watches_of
-  stands-applied client op k r R' L' W' above records olds watches =
-      let held = held-is k r.stamp true above in
-      record {
-        records = λ key. records key ∙ ap (λ (o : Option RecordValue). cond (key_eq k key) (Some r) o) (s.records key) ∙ sym (record_after-applied before client op k r key held);
-        olds = λ key t. olds key t ∙ olds-update client op k r key t;
-        watches = watches ∙ ap (λ (ws : List Watcher). filter (λ w. not (is_due k r.stamp w)) ws) s.watches ∙ filter-twice (λ w. not (is_due k r.stamp w)) (λ w. is_waiting before w) (watches_of before)
-            ∙ filter-same (λ w. is_waiting before w && not (is_due k r.stamp w)) (λ w. is_waiting (asks.Update client op k r ∷ before) w) (λ w. sym (is_waiting-applied before client op k r w held)) (watches_of before);
-      }
-
-  pub says-read : (client op : ℕ) (k : List ℕ) → says.Has client op k (R k) ∷ [] ≡ service_answers before (asks.Read client op k)
-  unfolding service_answers
-  says-read client op k = ap (λ (o : Option RecordValue). says.Has client op k o ∷ []) (s.records k)
-
-  pub says-due : (client op : ℕ) (k : List ℕ) (stamp : Timestamp) → stamp_lt stamp (stamp_of_record (R k)) ≡ true → says.Fired client op k stamp ∷ [] ≡ service_answers before (asks.Watch client op k stamp)
-  unfolding service_answers record_stamp
-  says-due client op k stamp due =
-      let here : stamp_lt stamp (stamp_of_record (record_after before k)) ≡ true = ap (λ (o : Option RecordValue). stamp_lt stamp (stamp_of_record o)) (sym (s.records k)) ∙ due in
-      rw here refl
-
-  pub says-waits : (client op : ℕ) (k : List ℕ) (stamp : Timestamp) → stamp_lt stamp (stamp_of_record (R k)) ≡ false → [] ≡ service_answers before (asks.Watch client op k stamp)
-  unfolding service_answers record_stamp
-  says-waits client op k stamp waits =
-      let here : stamp_lt stamp (stamp_of_record (record_after before k)) ≡ false = ap (λ (o : Option RecordValue). stamp_lt stamp (stamp_of_record o)) (sym (s.records k)) ∙ waits in
-      rw here refl
-
-  pub says-olds : (client op : ℕ) (k : List ℕ) (olds : List Timestamp) → is_rising olds ≡ true → ((t : Timestamp) → has_stamp olds t ≡ L k t) → says.OldList client op k (take 256 olds) ∷ [] ≡ service_answers before (asks.Olds client op k)
-  unfolding service_answers
-  says-olds client op k olds rising same = ap (λ (ts : List Timestamp). says.OldList client op k ts ∷ []) (old_list-rising before k olds rising (λ t. same t ∙ s.olds k t))
-
-  pub says-applied : (client op : ℕ) (k : List ℕ) (r : RecordValue) → stamp_lt (stamp_of_record (R k)) r.stamp ≡ true
-      → says.Applied client op k r.stamp ∷ map fired (filter (λ w. is_due k r.stamp w) W) ≡ service_answers before (asks.Update client op k r)
-  unfolding service_answers record_stamp fired_watches
-  says-applied client op k r above =
-      let held = held-is k r.stamp true above in
-      let passed : filter (λ w. is_due k r.stamp w) W ≡ filter (λ w. is_passed before k r.stamp w) (watches_of before) =
-      ap (λ (ws : List Watcher). filter (λ w. is_due k r.stamp w) ws) s.watches ∙ filter-twice (λ w. is_due k r.stamp w) (λ w. is_waiting before w) (watches_of before)
-      ∙ filter-same (λ w. is_waiting before w && is_due k r.stamp w) (λ w. is_passed before k r.stamp w) (λ w. sym (is_passed-waiting before k r.stamp w)) (watches_of before) in
-      rw (held, passed) refl
-
-  pub says-kept : (client op : ℕ) (k : List ℕ) (r : RecordValue) → stamp_lt (stamp_of_record (R k)) r.stamp ≡ false → says.Kept client op k (stamp_of_record (R k)) ∷ [] ≡ service_answers before (asks.Update client op k r)
-  unfolding service_answers record_stamp
-  says-kept client op k r below =
-      let held = held-is k r.stamp false below in
-      rw held (ap (λ (o : Option RecordValue). says.Kept client op k (stamp_of_record o) ∷ []) (s.records k))
-
-  pub says-forgot : (client op : ℕ) (k : List ℕ) (stamps : List Timestamp) → says.Forgot client op k ∷ [] ≡ service_answers before (asks.Forget client op k stamps)
-  unfolding service_answers
-  says-forgot client op k stamps = refl
-
-pub stands-new : StandsFor (λ key. None) (λ key stamp. false) [] []
-unfolding record_after is_old watches_of
-stands-new = record { records = λ key. refl; olds = λ key stamp. refl; watches = refl }
+pub on-push : (k key : List ℕ) (ws : List Watcher) (w : Watcher) → w.key ≡ k → watches_on key (ws ++ w ∷ []) ≡ cond (key_eq k key) (watches_on k ws ++ w ∷ []) (watches_on key ws)
+on-push k key ws w of =
+    filter-push (λ v. key_eq v.key key) ws w ∙ ap (λ (x : List ℕ). watches_on key ws ++ cond (key_eq x key) (w ∷ []) []) of ∙ elim (cases_bool (key_eq k key)) [
+      | inl here ↦ rw here (ap (λ (x : List ℕ). watches_on x ws ++ w ∷ []) (sym (key_eq-true k key here)))
+      | inr other ↦ rw other (append-nil (watches_on key ws))
+    ]

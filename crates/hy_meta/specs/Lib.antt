@@ -3,5 +3,6 @@ pub mod Watches
 pub mod Meta
 pub mod Sessions
 pub mod Rows
-pub mod Held
 pub mod Run
+pub mod Entry
+pub mod Held

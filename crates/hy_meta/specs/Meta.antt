@@ -10,7 +10,7 @@ use Rattle.hy_record.specs.Stamp.{Timestamp, stamp_lt}
 use Rattle.hy_record.specs.Record.{RecordValue}
 use Rattle.hy_meta.specs.declared.watcher.Watcher.{Watcher}
 use Rattle.hy_meta.specs.Service.{record_after, record_stamp, is_old, old_list}
-use Rattle.hy_meta.specs.Watches.{fired_watches, waiting_watches, fired}
+use Rattle.hy_meta.specs.Watches.{fired_watches, waiting_watches, watches_on, fired}
 
 -- what the service answers to a request, after those that it served
 unfoldable pub service_answers : List MetaAsk → MetaAsk → List MetaSay
@@ -27,11 +27,11 @@ service_answers before (asks.Forget client op key stamps) = says.Forgot client o
 -- the parts of a service, each seen as a function of what it is asked for, are those after these requests
 pub record StandsFor (record_at : List ℕ → Option RecordValue)
     (lists : List ℕ → Timestamp → Bool)
-    (waiting : List Watcher)
+    (waiting : List ℕ → List Watcher)
     (served : List MetaAsk) : Type 0 where
   pub records : (key : List ℕ) → record_at key ≡ record_after served key
   pub olds : (key : List ℕ) (stamp : Timestamp) → lists key stamp ≡ is_old served key stamp
-  pub watches : waiting ≡ waiting_watches served
+  pub watches : (key : List ℕ) → waiting key ≡ watches_on key (waiting_watches served)
 
 -- what was answered is what the definition gives, after any requests that the service stood for
 abbrev pub Says : (List MetaAsk → Type 0) → MetaAsk → Result (Vec MetaSay) NoMemory → Type 0

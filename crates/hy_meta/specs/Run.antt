@@ -17,6 +17,16 @@ unfoldable pub answers_of : List MetaAsk → List MetaSay
 answers_of [] = []
 answers_of (ask ∷ before) = answers_of before ++ service_answers before ask
 
+-- the requests that were served, newest first, when these came in this order behind those before
+abbrev pub served_in_turn : List MetaAsk → List MetaAsk → List MetaAsk
+served_in_turn before [] = before
+served_in_turn before (ask ∷ later) = served_in_turn (ask ∷ before) later
+
+-- the messages that are sent in answer to them
+abbrev pub answers_in_turn : List MetaAsk → List MetaAsk → List MetaSay
+answers_in_turn before [] = []
+answers_in_turn before (ask ∷ later) = service_answers before ask ++ answers_in_turn (ask ∷ before) later
+
 -- the two watches were asked for by the same operation, on the same key and timestamp
 unfoldable pub watcher_eq : Watcher → Watcher → Bool
 watcher_eq a b = a.client == b.client && a.op == b.op && key_eq a.key b.key && stamp_eq a.stamp b.stamp

@@ -33,6 +33,10 @@ is_waiting served w = not (stamp_lt w.stamp (record_stamp served w.key))
 abbrev pub waiting_watches : List MetaAsk → List Watcher
 waiting_watches served = filter (λ w. is_waiting served w) (watches_of served)
 
+-- those of the key
+abbrev pub watches_on : List ℕ → List Watcher → List Watcher
+watches_on key watches = filter (λ w. key_eq w.key key) watches
+
 -- what tells of a watch
 abbrev pub fired : Watcher → MetaSay
 fired w = Fired w.client w.op w.key w.stamp

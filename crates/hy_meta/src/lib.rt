@@ -1,10 +1,14 @@
 //! The metadata service: it keeps the record of each key and its superseded timestamps, and fires one-time watches.
 #![tactic(auto)]
 
+mod entry;
 mod laws;
 mod meta;
+mod old_set;
 mod olds;
+mod plain;
 mod rows;
+mod run;
 mod service;
 mod watcher;
 
@@ -13,6 +17,8 @@ pub use laws::{
     record_never_falls, updates_apply_where_above, watches_fire_once,
 };
 pub use meta::{Meta, SessionsFull};
+pub use plain::PlainService;
+pub use run::run_asks;
 pub use service::Service;
 pub use watcher::Watcher;
 

@@ -1,30 +1,30 @@
-//! The first metadata service: lists that are searched from the front.
+//! The metadata service, by an ordered map of the keys.
 
-ghost use Rattle.std.specs.Prelude.{◌≡◌, ◌∷◌, [], not, IfOk, OnOk, OnErr, map, filter, false};
-ghost use Rattle.std.specs.Bool.{MatchBool};
+ghost use Rattle.std.specs.Prelude.{◌≡◌, ◌∷◌, [], IfOk, OnOk, OnErr, IsTrue, take};
+ghost use Rattle.std.specs.Option.{option_copied};
 ghost use Rattle.hy_record.specs.declared.message.MetaAsk.{MetaAsk};
 ghost use Rattle.hy_record.specs.declared.message.MetaAsk.TheVariants as asks;
-ghost use Rattle.hy_record.specs.declared.message.MetaSay.TheVariants as says;
-ghost use Rattle.hy_record.specs.Stamp.{stamp_lt};
-ghost use Rattle.hy_meta.specs.Service.{is_old};
-ghost use Rattle.hy_meta.specs.Watches.{fired};
-ghost use Rattle.hy_meta.specs.Rows.{row_of, PutsRow, SameRows, AddsOld, superseded};
 ghost use Rattle.hy_meta.specs.Meta.{Says, GoesOn};
-ghost use Rattle.hy_meta.specs.Held.{Serves, is_due};
+ghost use Rattle.hy_meta.specs.Entry.{EntryPut, forgotten};
+ghost use Rattle.hy_meta.specs.Held.{Serves, entry_of};
+ghost use Rattle.hy_record.specs.Stamps.{is_rising};
 
+use crate::entry::Entry;
 use crate::meta::{Meta, SessionsFull};
-use crate::rows::Rows;
 use crate::watcher::Watcher;
 use hy_base::{MAX_SESSIONS, NoMemory};
-use hy_record::{Key, MetaAsk, MetaSay, Record, Stamp, Stamps};
+use hy_record::{Key, MAX_STAMPS, MetaAsk, MetaSay, Record, Stamp, Stamps};
 use std::alloc::Global;
+use std::collections::BTreeMap;
 
-/// A metadata service that keeps a row for each key and the watches that wait.
+/// A metadata service that finds the entry of a key in the logarithm of their number.
+///
+/// An update also takes the logarithm of the superseded timestamps of its key, and looks at each watch
+/// that waits on it.
 #[derive(Debug, Drop)]
 pub struct Service {
     given: u32,
-    rows: Rows,
-    watches: Vec<Watcher>,
+    entries: BTreeMap<Key, Entry>,
 }
 
 impl Service {
@@ -35,16 +35,58 @@ impl Service {
     {
         Ok(Service {
             given: 0,
-            rows: Rows::new(alloc),
-            watches: Vec::new(alloc),
+            entries: BTreeMap::new(alloc),
         })
+    }
+
+    /// A copy of the key's record.
+    fn copied(&self, alloc: Global, key: &Key) -> Result<Option<Record>, NoMemory>
+        ensures { IfOk result (λ rec. rec ≡ (entry_of self.now key.now).rec) }
+    {
+        match self.entries.get(key) {
+            Some(entry) => entry.copied(alloc),
+            None => Ok(None),
+        }
+    }
+
+    /// The least superseded timestamps of the key.
+    fn least_olds(&self, alloc: Global, key: &Key) -> Result<Stamps, NoMemory>
+        ensures front { IfOk result (λ stamps. stamps ≡ take MAX_STAMPS (entry_of self.now key.now).olds) }
+        ensures rising { OnOk result (IsTrue (is_rising (entry_of self.now key.now).olds)) }
+    {
+        match self.entries.get(key) {
+            Some(entry) => entry.least_olds(alloc),
+            None => Ok(Stamps::of(Vec::new(alloc))),
+        }
+    }
+
+    /// Takes superseded timestamps of the key out.
+    fn drop_olds(&mut self, key: &Key, stamps: &[Stamp])
+        ensures olds { EntryPut (entry_of self.old) (entry_of self.new) key.now
+            (forgotten (entry_of self.old key.now) stamps.now) }
+        ensures given { self.new.given ≡ self.old.given }
+    {
+        match self.entries.get_mut(key) {
+            Some(entry) => entry.forget(stamps),
+            None => {}
+        }
+    }
+
+    /// Puts the entry of a key.
+    fn put(&mut self, key: Key, entry: Entry) -> Result<(), NoMemory>
+        ensures ok { OnOk result (EntryPut (entry_of self.old) (entry_of self.new) key entry) }
+        ensures err { OnErr result (self.new.entries.entries ≡ self.old.entries.entries) }
+        ensures given { self.new.given ≡ self.old.given }
+    {
+        self.entries.insert(key, entry)?;
+        Ok(())
     }
 
     /// What a read is answered.
     fn read(&self, alloc: Global, client: u32, op: u32, key: &Key) -> Result<Vec<MetaSay>, NoMemory>
         ensures { Says (Serves self.now) (asks.Read client op key.now) result }
     {
-        let rec = self.rows.copied(alloc, key)?;
+        let rec = self.copied(alloc, key)?;
         let key = *key;
         one(
             alloc,
@@ -70,47 +112,41 @@ impl Service {
         ensures goes_on { GoesOn (Serves self.old) (Serves self.new) (asks.Update client op key.now rec.now) result }
         ensures given { self.new.given ≡ self.old.given }
     {
-        let held = self.rows.held_stamp(key);
-        let stamp = rec.stamp();
-        if held.is_below(&stamp) {
-            self.apply(alloc, client, op, key, rec)
-        } else {
-            self.refuse(alloc, client, op, key, held, stamp)
+        match self.entries.get_mut(key) {
+            Some(entry) => entry.update(alloc, client, op, key, rec),
+            None => {
+                let mut entry = Entry::new(alloc);
+                let says = entry.update(alloc, client, op, key, rec)?;
+                self.put(*key, entry)?;
+                Ok(says)
+            }
         }
     }
 
     /// Serves a watch.
-    fn watch(
-        &mut self,
-        alloc: Global,
-        client: u32,
-        op: u32,
-        key: &Key,
-        stamp: Stamp,
-    ) -> Result<Vec<MetaSay>, NoMemory>
-        ensures says { Says (Serves self.old) (asks.Watch client op key.now stamp) result }
-        ensures goes_on { GoesOn (Serves self.old) (Serves self.new) (asks.Watch client op key.now stamp) result }
+    fn watch(&mut self, alloc: Global, watcher: Watcher) -> Result<Vec<MetaSay>, NoMemory>
+        ensures says { Says (Serves self.old)
+            (asks.Watch watcher.client watcher.op watcher.key watcher.stamp) result }
+        ensures goes_on { GoesOn (Serves self.old) (Serves self.new)
+            (asks.Watch watcher.client watcher.op watcher.key watcher.stamp) result }
         ensures given { self.new.given ≡ self.old.given }
     {
-        let reached = self.rows.held_stamp(key);
-        let watcher = Watcher {
-            client,
-            op,
-            key: *key,
-            stamp,
-        };
-        if stamp.is_below(&reached) {
-            return one(alloc, watcher.fired());
+        match self.entries.get_mut(&watcher.key) {
+            Some(entry) => entry.watch(alloc, watcher),
+            None => {
+                let mut entry = Entry::new(alloc);
+                let says = entry.watch(alloc, watcher)?;
+                self.put(watcher.key, entry)?;
+                Ok(says)
+            }
         }
-        self.watches.push(watcher)?;
-        Ok(Vec::new(alloc))
     }
 
     /// What a request for the superseded timestamps is answered.
     fn olds(&self, alloc: Global, client: u32, op: u32, key: &Key) -> Result<Vec<MetaSay>, NoMemory>
         ensures { Says (Serves self.now) (asks.Olds client op key.now) result }
     {
-        let stamps = self.rows.least_olds(alloc, key)?;
+        let stamps = self.least_olds(alloc, key)?;
         let key = *key;
         one(
             alloc,
@@ -142,107 +178,13 @@ impl Service {
             key: *key,
         };
         let says = one(alloc, forgot)?;
-        self.rows.remove_olds(key, stamps.items());
+        self.drop_olds(key, stamps.items());
         Ok(says)
     }
-
-    /// An update whose timestamp is above that of the record.
-    fn apply(
-        &mut self,
-        alloc: Global,
-        client: u32,
-        op: u32,
-        key: &Key,
-        rec: &Record,
-    ) -> Result<Vec<MetaSay>, NoMemory>
-        ensures says { IfOk result (λ sent. sent.items
-            ≡ says.Applied client op key.now rec.now.stamp
-            ∷ map fired (filter (λ w. is_due key.now rec.now.stamp w) self.old.watches.items)) }
-        ensures rows { OnOk result (PutsRow self.old.rows self.new.rows key.now
-            (superseded (row_of self.old.rows key.now) key.now rec.now)) }
-        ensures watches { OnOk result (self.new.watches.items
-            ≡ filter (λ w. not (is_due key.now rec.now.stamp w)) self.old.watches.items) }
-        ensures rows_stay { OnErr result (SameRows self.old.rows self.new.rows) }
-        ensures watches_stay { OnErr result (self.new.watches.items ≡ self.old.watches.items) }
-        ensures given { self.new.given ≡ self.old.given }
-    {
-        let stamp = rec.stamp();
-        let says = applied(alloc, client, op, key, stamp, &self.watches)?;
-        let newer = rec.copy(alloc)?;
-        self.rows.put(alloc, key, newer)?;
-        retain_others(&mut self.watches, key, &stamp);
-        Ok(says)
-    }
-
-    /// An update whose timestamp is not above that of the record, which is `held`.
-    fn refuse(
-        &mut self,
-        alloc: Global,
-        client: u32,
-        op: u32,
-        key: &Key,
-        held: Stamp,
-        stamp: Stamp,
-    ) -> Result<Vec<MetaSay>, NoMemory>
-        ensures says { IfOk result (λ sent. sent.items ≡ says.Kept client op key.now held ∷ []) }
-        ensures rows { OnOk result (MatchBool (stamp_lt stamp held)
-            (AddsOld self.old.rows self.new.rows key.now stamp)
-            (SameRows self.old.rows self.new.rows)) }
-        ensures err { OnErr result (SameRows self.old.rows self.new.rows) }
-        ensures watches { self.new.watches.items ≡ self.old.watches.items }
-        ensures given { self.new.given ≡ self.old.given }
-    {
-        let kept = MetaSay::Kept {
-            client,
-            op,
-            key: *key,
-            stamp: held,
-        };
-        let says = one(alloc, kept)?;
-        if stamp.is_below(&held) {
-            self.rows.add_old(key, stamp)?;
-        }
-        Ok(says)
-    }
-}
-
-/// Ends the watches that are due.
-fn retain_others(watches: &mut Vec<Watcher>, key: &Key, stamp: &Stamp)
-    ensures { watches.new.items ≡ filter (λ w. not (is_due key.now stamp.now w)) watches.old.items }
-{
-    watches.retain(|watcher| !watcher.is_due(key, stamp));
-}
-
-/// Applied, and then what tells of each watch that is due, in order.
-fn applied(
-    alloc: Global,
-    client: u32,
-    op: u32,
-    key: &Key,
-    stamp: Stamp,
-    watches: &[Watcher],
-) -> Result<Vec<MetaSay>, NoMemory>
-    ensures { IfOk result (λ sent. sent.items
-        ≡ says.Applied client op key.now stamp ∷ map fired (filter (λ w. is_due key.now stamp w) watches.now)) }
-{
-    let first = MetaSay::Applied {
-        client,
-        op,
-        key: *key,
-        stamp,
-    };
-    let mut messages = Vec::new(alloc);
-    messages.push(first)?;
-    for watcher in watches {
-        if watcher.is_due(key, &stamp) {
-            messages.push(watcher.fired())?;
-        }
-    }
-    Ok(messages)
 }
 
 /// One message.
-fn one(alloc: Global, say: MetaSay) -> Result<Vec<MetaSay>, NoMemory>
+pub(crate) fn one(alloc: Global, say: MetaSay) -> Result<Vec<MetaSay>, NoMemory>
     ensures { IfOk result (λ sent. sent.items ≡ say ∷ []) }
 {
     let mut says = Vec::new(alloc);
@@ -277,7 +219,15 @@ impl Meta for Service {
                 op,
                 key,
                 stamp,
-            } => self.watch(alloc, *client, *op, key, *stamp),
+            } => self.watch(
+                alloc,
+                Watcher {
+                    client: *client,
+                    op: *op,
+                    key: *key,
+                    stamp: *stamp,
+                },
+            ),
             MetaAsk::Olds { client, op, key } => self.olds(alloc, *client, *op, key),
             MetaAsk::Forget {
                 client,
@@ -289,13 +239,15 @@ impl Meta for Service {
     }
 
     fn current(&self, key: &Key) -> Option<&Record> {
-        let row = self.rows.find(key)?;
-        Some(&row.rec)
+        match self.entries.get(key) {
+            Some(entry) => entry.record(),
+            None => None,
+        }
     }
 
     fn is_old(&self, key: &Key, stamp: Stamp) -> bool {
-        match self.rows.find(key) {
-            Some(row) => row.olds.has(&stamp),
+        match self.entries.get(key) {
+            Some(entry) => entry.is_old(&stamp),
             None => false,
         }
     }

@@ -30,15 +30,13 @@ fn update(alloc: Global, op: u32, at: &Key, sn: u32, cid: u32) -> Result<MetaAsk
     })
 }
 
-/// What any service answers to the requests, one after another.
-fn told<M: Meta>(service: &mut M, alloc: Global, asks: &[MetaAsk]) -> Result<Vec<MetaSay>, Fail> {
-    let mut told = Vec::new(alloc);
-    for ask in asks {
-        for say in service.serve(alloc, ask).ok().ok_or("an answer")? {
-            told.push(say)?;
-        }
-    }
-    Ok(told)
+/// Whether both services, when new, answer the requests so.
+fn both_say(alloc: Global, asks: &[MetaAsk], due: &Vec<MetaSay>) -> Result<bool, Fail> {
+    let mut service = Service::new(alloc).ok().ok_or("a service")?;
+    let mut plain = PlainService::new(alloc).ok().ok_or("a service")?;
+    let says = run_asks(&mut service, alloc, asks).ok().ok_or("answers")?;
+    let plainly = run_asks(&mut plain, alloc, asks).ok().ok_or("answers")?;
+    Ok(says == *due && plainly == *due)
 }
 
 /// The answer to an update of client 1 that was applied.
@@ -95,7 +93,6 @@ fn watch(op: u32, at: &Key, above: Stamp) -> MetaAsk {
 #[test]
 fn watches_fire_when_they_are_due(rt: HostRuntime) -> Result<(), Fail> {
     let alloc = rt.alloc();
-    let mut service = Service::new(alloc).ok().ok_or("a service")?;
     let (a, b) = (key("a")?, key("b")?);
     let zero = Stamp::zero();
     let one = stamp(1, 1)?;
@@ -104,19 +101,17 @@ fn watches_fire_when_they_are_due(rt: HostRuntime) -> Result<(), Fail> {
     asks.push(update(alloc, 2, &b, 1, 1)?)?;
     asks.push(update(alloc, 3, &a, 1, 1)?)?;
     asks.push(watch(4, &a, zero))?;
-    let says = told(&mut service, alloc, &asks)?;
     let mut due = vec![in alloc; applied(2, &b, one)]?;
     due.push(applied(3, &a, one))?;
     due.push(fired(1, &a, zero))?;
     due.push(fired(4, &a, zero))?;
-    assert!(rt; says == due);
+    assert!(rt; both_say(alloc, &asks, &due)?);
     Ok(())
 }
 
 #[test]
 fn a_watch_that_is_served_twice_fires_twice(rt: HostRuntime) -> Result<(), Fail> {
     let alloc = rt.alloc();
-    let mut service = Service::new(alloc).ok().ok_or("a service")?;
     let a = key("a")?;
     let one = stamp(1, 1)?;
     let mut asks = vec![in alloc; update(alloc, 4, &a, 1, 1)?]?;
@@ -126,7 +121,6 @@ fn a_watch_that_is_served_twice_fires_twice(rt: HostRuntime) -> Result<(), Fail>
     for (op, sn) in [(7, 1), (8, 2), (9, 3)] {
         asks.push(update(alloc, op, &a, sn, 1)?)?;
     }
-    let says = told(&mut service, alloc, &asks)?;
     let mut due = vec![in alloc; applied(4, &a, one)]?;
     due.push(kept(7, &a, one))?;
     due.push(applied(8, &a, stamp(2, 1)?))?;
@@ -134,14 +128,13 @@ fn a_watch_that_is_served_twice_fires_twice(rt: HostRuntime) -> Result<(), Fail>
         due.push(fired(op, &a, one))?;
     }
     due.push(applied(9, &a, stamp(3, 1)?))?;
-    assert!(rt; says == due);
+    assert!(rt; both_say(alloc, &asks, &due)?);
     Ok(())
 }
 
 #[test]
 fn more_than_a_thousand_watches_fire_in_order(rt: HostRuntime) -> Result<(), Fail> {
     let alloc = rt.alloc();
-    let mut service = Service::new(alloc).ok().ok_or("a service")?;
     let a = key("a")?;
     let zero = Stamp::zero();
     let mut asks = Vec::new(alloc);
@@ -151,64 +144,79 @@ fn more_than_a_thousand_watches_fire_in_order(rt: HostRuntime) -> Result<(), Fai
         due.push(fired(op, &a, zero))?;
     }
     asks.push(update(alloc, 9_999, &a, 1, 1)?)?;
-    let says = told(&mut service, alloc, &asks)?;
-    assert_eq!(rt; says.len(), 1_101);
-    assert!(rt; says == due);
+    assert!(rt; both_say(alloc, &asks, &due)?);
     Ok(())
 }
 
-/// A service whose record of the key has the timestamp 300 1, the last of as many updates.
-fn updated(alloc: Global, at: &Key) -> Result<Service, Fail> {
-    let mut service = Service::new(alloc).ok().ok_or("a service")?;
-    for sn in 1..301u32 {
-        service
-            .serve(alloc, &update(alloc, sn, at, sn, 1)?)
-            .ok()
-            .ok_or("an answer")?;
+/// The read of client 1, as its operation of this number.
+fn read(op: u32, at: &Key) -> MetaAsk {
+    MetaAsk::Read {
+        client: 1,
+        op,
+        key: *at,
     }
-    Ok(service)
 }
 
-/// The list of superseded timestamps that the service answers.
-fn olds(service: &mut Service, alloc: Global, at: &Key) -> Result<Vec<Stamp>, Fail> {
-    let ask = MetaAsk::Olds {
+/// The answer to a read of client 1.
+fn has(op: u32, at: &Key, rec: Option<Record>) -> MetaSay {
+    MetaSay::Has {
         client: 1,
-        op: 1,
+        op,
         key: *at,
-    };
-    let says = service.serve(alloc, &ask).ok().ok_or("the list")?;
+        rec,
+    }
+}
+
+/// The request of client 1 for the superseded timestamps.
+fn olds(op: u32, at: &Key) -> MetaAsk {
+    MetaAsk::Olds {
+        client: 1,
+        op,
+        key: *at,
+    }
+}
+
+/// The superseded timestamps that the last message lists.
+fn listed(alloc: Global, says: &Vec<MetaSay>) -> Result<Vec<Stamp>, Fail> {
     let mut listed = Vec::new(alloc);
-    for say in &says {
-        if let MetaSay::OldList { stamps, .. } = say {
-            listed.extend_from_slice(stamps.items())?;
-        }
+    if let Some(MetaSay::OldList { stamps, .. }) = says.last() {
+        listed.extend_from_slice(stamps.items())?;
     }
     Ok(listed)
 }
 
 #[test]
-fn superseded_timestamps_are_listed(rt: HostRuntime) -> Result<(), Fail> {
+fn a_repeated_update_is_kept(rt: HostRuntime) -> Result<(), Fail> {
     let alloc = rt.alloc();
     let a = key("a")?;
-    assert!(rt;
-        Service::new(alloc)
-            .ok()
-            .ok_or("a service")?
-            .current(&a)
-            .is_none()
-    );
-    let mut service = updated(alloc, &a)?;
-    let record = service.current(&a).ok_or("a record")?;
-    assert!(rt; record.stamp() == stamp(300, 1)?);
-    assert!(rt;
-        service.is_old(&a, stamp(1, 1)?)
-            && service.is_old(&a, stamp(299, 1)?)
-            && !service.is_old(&a, stamp(300, 1)?)
-    );
-    let listed = olds(&mut service, alloc, &a)?;
-    assert_eq!(rt; listed.len(), 256);
-    assert!(rt; listed.first().copied() == Some(stamp(1, 1)?));
-    assert!(rt; listed.last().copied() == Some(stamp(256, 1)?));
+    let mut asks = vec![in alloc; read(1, &a)]?;
+    asks.push(update(alloc, 1, &a, 1, 1)?)?;
+    asks.push(update(alloc, 1, &a, 1, 1)?)?;
+    let mut due = vec![in alloc; has(1, &a, None)]?;
+    due.push(applied(1, &a, stamp(1, 1)?))?;
+    due.push(kept(1, &a, stamp(1, 1)?))?;
+    assert!(rt; both_say(alloc, &asks, &due)?);
+    Ok(())
+}
+
+#[test]
+fn the_least_of_many_superseded_timestamps_are_listed(rt: HostRuntime) -> Result<(), Fail> {
+    let alloc = rt.alloc();
+    let a = key("a")?;
+    let mut asks = Vec::new(alloc);
+    for sn in 1..301u32 {
+        asks.push(update(alloc, sn, &a, sn, 1)?)?;
+    }
+    asks.push(olds(301, &a))?;
+    let mut service = Service::new(alloc).ok().ok_or("a service")?;
+    let mut plain = PlainService::new(alloc).ok().ok_or("a service")?;
+    let says = run_asks(&mut service, alloc, &asks).ok().ok_or("answers")?;
+    let plainly = run_asks(&mut plain, alloc, &asks).ok().ok_or("answers")?;
+    assert!(rt; says == plainly);
+    let least = listed(alloc, &says)?;
+    assert_eq!(rt; least.len(), 256);
+    assert!(rt; least.first().copied() == Some(stamp(1, 1)?));
+    assert!(rt; least.last().copied() == Some(stamp(256, 1)?));
     Ok(())
 }
 
@@ -216,48 +224,30 @@ fn superseded_timestamps_are_listed(rt: HostRuntime) -> Result<(), Fail> {
 fn a_forgotten_timestamp_becomes_old_again(rt: HostRuntime) -> Result<(), Fail> {
     let alloc = rt.alloc();
     let a = key("a")?;
-    let first = stamp(1, 1)?;
-    let mut service = updated(alloc, &a)?;
+    let (first, second) = (stamp(1, 1)?, stamp(2, 1)?);
+    let mut service = Service::new(alloc).ok().ok_or("a service")?;
+    let mut asks = vec![in alloc; update(alloc, 1, &a, 1, 1)?]?;
+    asks.push(update(alloc, 2, &a, 2, 1)?)?;
+    run_asks(&mut service, alloc, &asks).ok().ok_or("answers")?;
+    assert!(rt; service.is_old(&a, first) && !service.is_old(&a, second));
     let forget = MetaAsk::Forget {
         client: 1,
-        op: 2,
+        op: 3,
         key: a,
         stamps: Stamps::of(vec![in alloc; first]?),
     };
-    let forgot = MetaSay::Forgot {
-        client: 1,
-        op: 2,
-        key: a,
-    };
-    let says = told(&mut service, alloc, &[forget])?;
-    assert!(rt; says == vec![in alloc; forgot]?);
+    run_asks(&mut service, alloc, &[forget])
+        .ok()
+        .ok_or("answers")?;
     assert!(rt; !service.is_old(&a, first));
     // An update that is refused makes it old.
-    let says = told(&mut service, alloc, &[update(alloc, 3, &a, 1, 1)?])?;
-    assert!(rt; says == vec![in alloc; kept(3, &a, stamp(300, 1)?)]?);
+    let says = run_asks(&mut service, alloc, &[update(alloc, 4, &a, 1, 1)?])
+        .ok()
+        .ok_or("answers")?;
+    assert!(rt; says == vec![in alloc; kept(4, &a, second)]?);
     assert!(rt; service.is_old(&a, first));
-    Ok(())
-}
-
-#[test]
-fn a_read_is_answered_with_the_record(rt: HostRuntime) -> Result<(), Fail> {
-    let alloc = rt.alloc();
-    let a = key("a")?;
-    let read = MetaAsk::Read {
-        client: 1,
-        op: 4,
-        key: a,
-    };
-    let last = Stamp::new(300, 1).ok_or("a stamp")?;
-    let rec = Record::tomb(alloc, last).ok().ok_or("a record")?;
-    let has = MetaSay::Has {
-        client: 1,
-        op: 4,
-        key: a,
-        rec: Some(rec),
-    };
-    let says = told(&mut updated(alloc, &a)?, alloc, &[read])?;
-    assert!(rt; says == vec![in alloc; has]?);
+    let record = service.current(&a).ok_or("a record")?;
+    assert!(rt; record.stamp() == second);
     Ok(())
 }
 

@@ -1,21 +1,15 @@
 -- The timestamps are forgotten.
-use Rattle.std.proofs.Common.{List}
-use Rattle.hy_meta.specs.declared.rows.Row.{Row}
-use Rattle.hy_meta.specs.declared.watcher.Watcher.{Watcher}
-use Rattle.hy_meta.proofs.Answering.{answers-forgot}
-use Rattle.hy_meta.proofs.Holds.{serves-forget}
+use Rattle.std.proofs.Common.{Ok}
+use Rattle.hy_record.specs.declared.message.MetaAsk.TheVariants as asks
+use Rattle.hy_meta.specs.Held.{map_entry}
+use Rattle.hy_meta.proofs.Answering.{goes_on, answers-forget}
 use Rattle.hy_meta.proofs.service.Service.forget.Goals as goal
 
 pub returns-clause-says : goal.returns-clause-says
 returns-clause-says c =
-    let rows : List Row = c.args.self.now.rows in
-    let watches : List Watcher = c.args.self.now.watches.items in
-    let k = c.args.key.now in
-    λ before s. answers-forgot rows watches c.args.client c.args.op k c.args.stamps.now c.in_ok-says.says.items c.in_ok-says.ensures before s
+    answers-forget (map_entry c.args.self.now.entries.entries) c.args.client c.args.op c.args.key.now c.args.stamps.now (Ok c.in_ok-says.says) c.in_ok-says.ensures
 
 pub returns-clause-goes_on : goal.returns-clause-goes_on
 returns-clause-goes_on c =
-    let rows : List Row = c.args.self.now.rows in
-    let watches : List Watcher = c.args.self.now.watches.items in
-    let k = c.args.key.now in
-    λ before s. serves-forget rows c.remove_olds.new.self watches before c.args.client c.args.op k c.args.stamps.now s (rw c.items.ensures.value at c.remove_olds.ensures)
+    goes_on (map_entry c.args.self.now.entries.entries) (map_entry c.drop_olds.new.self.entries.entries) (asks.Forget c.args.client c.args.op c.args.key.now c.args.stamps.now) (Ok c.in_ok-says.says)
+    (rw c.items.ensures.value at c.drop_olds.ensures.olds) tt

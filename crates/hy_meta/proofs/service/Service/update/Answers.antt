@@ -1,49 +1,50 @@
--- An update is applied where its timestamp is above that of the record, and refused elsewhere.
-use Rattle.std.proofs.Common.{◌≡◌, List, true, false, sym, ap, subst, ◌∙◌}
-use Rattle.std.specs.Prelude.{OnOk}
-use Rattle.std.specs.Bool.{MatchBool}
-use Rattle.hy_record.specs.Stamp.{Timestamp, stamp_lt}
-use Rattle.hy_meta.specs.declared.rows.Row.{Row}
-use Rattle.hy_meta.specs.declared.watcher.Watcher.{Watcher}
-use Rattle.hy_meta.specs.Service.{stamp_of_record}
-use Rattle.hy_meta.specs.Rows.{record_in, SameRows, AddsOld}
-use Rattle.hy_meta.proofs.Answering.{answers-applied, goes-applied, answers-kept, goes-kept}
+-- What the entry of the key answers, and becomes.
+use Rattle.std.proofs.Common.{◌≡◌, Some, None, Ok, ◌∙◌}
+use Rattle.hy_record.specs.declared.message.MetaAsk.{MetaAsk}
+use Rattle.hy_record.specs.declared.message.MetaAsk.TheVariants as asks
+use Rattle.hy_meta.specs.Entry.{EntryValue, EntryPut}
+use Rattle.hy_meta.specs.Held.{map_entry}
+use Rattle.hy_meta.proofs.Answering.{goes_on, answers-update}
+use Rattle.hy_meta.proofs.Maps.{map-puts, map-becomes, map-same, entry-found, some-there}
+use Rattle.hy_meta.proofs.Places.{on_ok, on_err}
 use Rattle.hy_meta.proofs.service.Service.update.Goals as goal
 
-pub returns-then-is_below-clause-says : goal.returns-then-is_below-clause-says
-returns-then-is_below-clause-says c =
-    let rows : List Row = c.args.self.now.rows in
-    let watches : List Watcher = c.args.self.now.watches.items in
-    let k = c.args.key.now in
-    let held : c.held_stamp-held.result ≡ stamp_of_record (record_in rows k) = c.held_stamp-held.ensures in
-    let order : stamp_lt (stamp_of_record (record_in rows k)) c.args.rec.now.stamp ≡ true = ap (λ (t : Timestamp). stamp_lt (stamp_of_record (record_in rows k)) t) (sym c.stamp-stamp.ensures) ∙ ap (λ (t : Timestamp). stamp_lt t c.stamp-stamp.result) (sym held) ∙ sym c.is_below.ensures ∙ c.if-is_below.true in
-    answers-applied rows watches c.args.client c.args.op k c.args.rec.now c.apply.result order c.apply.ensures.says
+pub returns-in-Some-clause-says : goal.returns-in-Some-clause-says
+returns-in-Some-clause-says c =
+    let entries = c.args.self.now.entries.entries in
+    let key = c.args.key.now in
+    let found : c.in-Some.entry.now ≡ map_entry entries key = entry-found entries key (Some c.in-Some.entry.now) c.in-Some.ensures.value in
+    answers-update (map_entry entries) c.args.client c.args.op key c.args.rec.now c.update.result (rw found at c.update.ensures.says)
 
-pub returns-then-is_below-clause-goes_on : goal.returns-then-is_below-clause-goes_on
-returns-then-is_below-clause-goes_on c =
-    let rows : List Row = c.args.self.now.rows in
-    let watches : List Watcher = c.args.self.now.watches.items in
-    let k = c.args.key.now in
-    let held : c.held_stamp-held.result ≡ stamp_of_record (record_in rows k) = c.held_stamp-held.ensures in
-    let order : stamp_lt (stamp_of_record (record_in rows k)) c.args.rec.now.stamp ≡ true = ap (λ (t : Timestamp). stamp_lt (stamp_of_record (record_in rows k)) t) (sym c.stamp-stamp.ensures) ∙ ap (λ (t : Timestamp). stamp_lt t c.stamp-stamp.result) (sym held) ∙ sym c.is_below.ensures ∙ c.if-is_below.true in
-    goes-applied rows watches c.args.client c.args.op k c.apply.new.self.rows c.apply.new.self.watches.items c.args.rec.now c.apply.result order c.apply.ensures.rows c.apply.ensures.watches c.apply.ensures.rows_stay c.apply.ensures.watches_stay
+pub returns-in-Some-clause-goes_on : goal.returns-in-Some-clause-goes_on
+returns-in-Some-clause-goes_on c =
+    let entries = c.args.self.now.entries.entries in
+    let key = c.args.key.now in
+    let was : EntryValue = c.in-Some.entry.now in
+    let now : EntryValue = c.update.new.self in
+    let then = (c.get_mut.follows.lender now).entries in
+    let ask : MetaAsk = asks.Update c.args.client c.args.op key c.args.rec.now in
+    let found : was ≡ map_entry entries key = entry-found entries key (Some was) c.in-Some.ensures.value in
+    let puts : EntryPut (map_entry entries) (map_entry then) key now = map-puts entries then key now ((c.get_mut.follows.holds now).3 (some-there was _ c.in-Some.ensures.value)).0 in
+    goes_on (map_entry entries) (map_entry then) ask c.update.result
+    (on_ok c.update.result c.update.ensures.ok (λ made. map-becomes (map_entry entries) (map_entry then) ask was now found made puts))
+    (on_err c.update.result c.update.ensures.err (λ same. map-same (map_entry entries) (map_entry then) key was now found same puts))
 
-pub returns-else-is_below-clause-says : goal.returns-else-is_below-clause-says
-returns-else-is_below-clause-says c =
-    let rows : List Row = c.args.self.now.rows in
-    let watches : List Watcher = c.args.self.now.watches.items in
-    let k = c.args.key.now in
-    let held : c.held_stamp-held.result ≡ stamp_of_record (record_in rows k) = c.held_stamp-held.ensures in
-    let order : stamp_lt (stamp_of_record (record_in rows k)) c.args.rec.now.stamp ≡ false = ap (λ (t : Timestamp). stamp_lt (stamp_of_record (record_in rows k)) t) (sym c.stamp-stamp.ensures) ∙ ap (λ (t : Timestamp). stamp_lt t c.stamp-stamp.result) (sym held) ∙ sym c.is_below.ensures ∙ c.if-is_below.false in
-    answers-kept rows watches c.args.client c.args.op k c.args.rec.now c.held_stamp-held.result c.refuse.result held order c.refuse.ensures.says
+pub returns-in_ok-put-in-None-clause-says : goal.returns-in_ok-put-in-None-clause-says
+returns-in_ok-put-in-None-clause-says c =
+    let entries = c.args.self.now.entries.entries in
+    let key = c.args.key.now in
+    let found : c.new-entry.result ≡ map_entry entries key = c.new-entry.ensures ∙ entry-found entries key None c.in-None.ensures.value in
+    answers-update (map_entry entries) c.args.client c.args.op key c.args.rec.now (Ok c.in_ok-says-in-None.says) (rw found at c.in_ok-says-in-None.ensures.says)
 
-pub returns-else-is_below-clause-goes_on : goal.returns-else-is_below-clause-goes_on
-returns-else-is_below-clause-goes_on c =
-    let rows : List Row = c.args.self.now.rows in
-    let watches : List Watcher = c.args.self.now.watches.items in
-    let k = c.args.key.now in
-    let held : c.held_stamp-held.result ≡ stamp_of_record (record_in rows k) = c.held_stamp-held.ensures in
-    let order : stamp_lt (stamp_of_record (record_in rows k)) c.args.rec.now.stamp ≡ false = ap (λ (t : Timestamp). stamp_lt (stamp_of_record (record_in rows k)) t) (sym c.stamp-stamp.ensures) ∙ ap (λ (t : Timestamp). stamp_lt t c.stamp-stamp.result) (sym held) ∙ sym c.is_below.ensures ∙ c.if-is_below.false in
-    let rows_then : OnOk c.refuse.result (MatchBool (stamp_lt c.args.rec.now.stamp c.held_stamp-held.result) (AddsOld rows c.refuse.new.self.rows k c.args.rec.now.stamp) (SameRows rows c.refuse.new.self.rows)) =
-    subst (λ (t : Timestamp). OnOk c.refuse.result (MatchBool (stamp_lt t c.held_stamp-held.result) (AddsOld rows c.refuse.new.self.rows k t) (SameRows rows c.refuse.new.self.rows))) c.stamp-stamp.ensures c.refuse.ensures.rows in
-    goes-kept rows watches c.args.client c.args.op k c.refuse.new.self.rows c.refuse.new.self.watches.items c.args.rec.now c.held_stamp-held.result c.refuse.result held order rows_then c.refuse.ensures.err c.refuse.ensures.watches
+pub returns-in_ok-put-in-None-clause-goes_on : goal.returns-in_ok-put-in-None-clause-goes_on
+returns-in_ok-put-in-None-clause-goes_on c =
+    let entries = c.args.self.now.entries.entries in
+    let key = c.args.key.now in
+    let was : EntryValue = c.new-entry.result in
+    let now : EntryValue = c.update-in-None.new.self in
+    let then = c.put.new.self.entries.entries in
+    let ask : MetaAsk = asks.Update c.args.client c.args.op key c.args.rec.now in
+    let found : was ≡ map_entry entries key = c.new-entry.ensures ∙ entry-found entries key None c.in-None.ensures.value in
+    let puts : EntryPut (map_entry entries) (map_entry then) key now = rw c.get_mut.follows.holds-at-none at c.in_ok-put-in-None.ensures.ok in
+    goes_on (map_entry entries) (map_entry then) ask (Ok c.in_ok-says-in-None.says) (map-becomes (map_entry entries) (map_entry then) ask was now found c.in_ok-says-in-None.ensures.ok puts) tt

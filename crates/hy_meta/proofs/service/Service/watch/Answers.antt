@@ -1,45 +1,50 @@
--- A watch fires at once where it is due, and waits elsewhere.
-use Rattle.std.proofs.Common.{◌≡◌, List, true, false, sym, ◌∙◌}
-use Rattle.hy_record.specs.Stamp.{stamp_lt}
-use Rattle.hy_meta.specs.declared.rows.Row.{Row}
-use Rattle.hy_meta.specs.declared.watcher.Watcher.{Watcher}
-use Rattle.hy_meta.specs.Service.{stamp_of_record}
-use Rattle.hy_meta.specs.Rows.{record_in}
-use Rattle.hy_meta.proofs.Answering.{answers-due, goes-due, answers-waits, goes-waits}
+-- What the entry of the key answers, and becomes.
+use Rattle.std.proofs.Common.{◌≡◌, Some, None, Ok, ◌∙◌}
+use Rattle.hy_record.specs.declared.message.MetaAsk.{MetaAsk}
+use Rattle.hy_record.specs.declared.message.MetaAsk.TheVariants as asks
+use Rattle.hy_meta.specs.Entry.{EntryValue, EntryPut}
+use Rattle.hy_meta.specs.Held.{map_entry}
+use Rattle.hy_meta.proofs.Answering.{goes_on, answers-watch}
+use Rattle.hy_meta.proofs.Maps.{map-puts, map-becomes, map-same, entry-found, some-there}
+use Rattle.hy_meta.proofs.Places.{on_ok, on_err}
 use Rattle.hy_meta.proofs.service.Service.watch.Goals as goal
 
-pub returns-then-is_below-clause-says : goal.returns-then-is_below-clause-says
-returns-then-is_below-clause-says c =
-    let rows : List Row = c.args.self.now.rows in
-    let watches : List Watcher = c.args.self.now.watches.items in
-    let k = c.args.key.now in
-    let held : c.held_stamp-reached.result ≡ stamp_of_record (record_in rows k) = c.held_stamp-reached.ensures in
-    let order : stamp_lt c.args.stamp c.held_stamp-reached.result ≡ true = sym c.is_below.ensures ∙ c.if-is_below.true in
-    answers-due rows watches c.args.client c.args.op k c.args.stamp c.held_stamp-reached.result c.one.result held order (rw c.fired.ensures at c.one.ensures)
+pub returns-in-Some-clause-says : goal.returns-in-Some-clause-says
+returns-in-Some-clause-says c =
+    let entries = c.args.self.now.entries.entries in
+    let key = c.args.watcher.key in
+    let found : c.in-Some.entry.now ≡ map_entry entries key = entry-found entries key (Some c.in-Some.entry.now) c.in-Some.ensures.value in
+    answers-watch (map_entry entries) c.args.watcher.client c.args.watcher.op key c.args.watcher.stamp c.watch.result (rw found at c.watch.ensures.says)
 
-pub returns-then-is_below-clause-goes_on : goal.returns-then-is_below-clause-goes_on
-returns-then-is_below-clause-goes_on c =
-    let rows : List Row = c.args.self.now.rows in
-    let watches : List Watcher = c.args.self.now.watches.items in
-    let k = c.args.key.now in
-    let held : c.held_stamp-reached.result ≡ stamp_of_record (record_in rows k) = c.held_stamp-reached.ensures in
-    let order : stamp_lt c.args.stamp c.held_stamp-reached.result ≡ true = sym c.is_below.ensures ∙ c.if-is_below.true in
-    goes-due rows watches c.args.client c.args.op k c.args.stamp c.held_stamp-reached.result c.one.result held order
+pub returns-in-Some-clause-goes_on : goal.returns-in-Some-clause-goes_on
+returns-in-Some-clause-goes_on c =
+    let entries = c.args.self.now.entries.entries in
+    let key = c.args.watcher.key in
+    let was : EntryValue = c.in-Some.entry.now in
+    let now : EntryValue = c.watch.new.self in
+    let then = (c.get_mut.follows.lender now).entries in
+    let ask : MetaAsk = asks.Watch c.args.watcher.client c.args.watcher.op key c.args.watcher.stamp in
+    let found : was ≡ map_entry entries key = entry-found entries key (Some was) c.in-Some.ensures.value in
+    let puts : EntryPut (map_entry entries) (map_entry then) key now = map-puts entries then key now ((c.get_mut.follows.holds now).3 (some-there was _ c.in-Some.ensures.value)).0 in
+    goes_on (map_entry entries) (map_entry then) ask c.watch.result
+    (on_ok c.watch.result c.watch.ensures.ok (λ made. map-becomes (map_entry entries) (map_entry then) ask was now found made puts))
+    (on_err c.watch.result c.watch.ensures.err (λ same. map-same (map_entry entries) (map_entry then) key was now found same puts))
 
-pub returns-clause-says : goal.returns-clause-says
-returns-clause-says c =
-    let rows : List Row = c.args.self.now.rows in
-    let watches : List Watcher = c.args.self.now.watches.items in
-    let k = c.args.key.now in
-    let held : c.held_stamp-reached.result ≡ stamp_of_record (record_in rows k) = c.held_stamp-reached.ensures in
-    let order : stamp_lt c.args.stamp c.held_stamp-reached.result ≡ false = sym c.is_below.ensures ∙ c.if-is_below.false in
-    answers-waits rows watches c.args.client c.args.op k c.args.stamp c.held_stamp-reached.result c.new.result.items held order c.new.ensures.items
+pub returns-in_ok-put-in-None-clause-says : goal.returns-in_ok-put-in-None-clause-says
+returns-in_ok-put-in-None-clause-says c =
+    let entries = c.args.self.now.entries.entries in
+    let key = c.args.watcher.key in
+    let found : c.new-entry.result ≡ map_entry entries key = c.new-entry.ensures ∙ entry-found entries key None c.in-None.ensures.value in
+    answers-watch (map_entry entries) c.args.watcher.client c.args.watcher.op key c.args.watcher.stamp (Ok c.in_ok-says-in-None.says) (rw found at c.in_ok-says-in-None.ensures.says)
 
-pub returns-clause-goes_on : goal.returns-clause-goes_on
-returns-clause-goes_on c =
-    let rows : List Row = c.args.self.now.rows in
-    let watches : List Watcher = c.args.self.now.watches.items in
-    let k = c.args.key.now in
-    let held : c.held_stamp-reached.result ≡ stamp_of_record (record_in rows k) = c.held_stamp-reached.ensures in
-    let order : stamp_lt c.args.stamp c.held_stamp-reached.result ≡ false = sym c.is_below.ensures ∙ c.if-is_below.false in
-    goes-waits rows watches c.args.client c.args.op k c.push.new.self.items c.args.stamp c.held_stamp-reached.result held order c.in_ok-push.ensures.items
+pub returns-in_ok-put-in-None-clause-goes_on : goal.returns-in_ok-put-in-None-clause-goes_on
+returns-in_ok-put-in-None-clause-goes_on c =
+    let entries = c.args.self.now.entries.entries in
+    let key = c.args.watcher.key in
+    let was : EntryValue = c.new-entry.result in
+    let now : EntryValue = c.watch-in-None.new.self in
+    let then = c.put.new.self.entries.entries in
+    let ask : MetaAsk = asks.Watch c.args.watcher.client c.args.watcher.op key c.args.watcher.stamp in
+    let found : was ≡ map_entry entries key = c.new-entry.ensures ∙ entry-found entries key None c.in-None.ensures.value in
+    let puts : EntryPut (map_entry entries) (map_entry then) key now = rw c.get_mut.follows.holds-at-none at c.in_ok-put-in-None.ensures.ok in
+    goes_on (map_entry entries) (map_entry then) ask (Ok c.in_ok-says-in-None.says) (map-becomes (map_entry entries) (map_entry then) ask was now found c.in_ok-says-in-None.ensures.ok puts) tt

@@ -1,24 +1,20 @@
 -- Requests that change nothing, and whom the answers are for.
-use Rattle.std.proofs.Common.{List}
-use Rattle.hy_meta.specs.declared.rows.Row.{Row}
-use Rattle.hy_meta.specs.Service.{has_stamp}
-use Rattle.hy_meta.specs.Rows.{record_in, olds_in}
 use Rattle.hy_record.specs.declared.message.MetaAsk.TheVariants as asks
-use Rattle.hy_meta.specs.Held.{Serves}
+use Rattle.hy_meta.specs.Held.{Serves, map_entry}
 use Rattle.hy_meta.proofs.Addressed.{says-addressed}
 use Rattle.hy_meta.proofs.Holds.{on_any}
-use Rattle.hy_meta.proofs.Steps.{stands-read, stands-olds}
+use Rattle.hy_meta.proofs.Entries.{stands-read, stands-olds}
 use Rattle.hy_meta.proofs.service.ServiceMeta.serve.Goals as goal
 
 pub returns-in-Read-clause-ok : goal.returns-in-Read-clause-ok
 returns-in-Read-clause-ok c =
-    let rows : List Row = c.args.self.now.rows in
-    rw c.in-Read.is (on_any c.read.result (λ asks s. stands-read (λ key. record_in rows key) (λ key t. has_stamp (olds_in rows key) t) c.args.self.now.watches.items asks s c.in-Read.client c.in-Read.op c.in-Read.key))
+    let entries = map_entry c.args.self.now.entries.entries in
+    rw c.in-Read.is (on_any c.read.result (λ before s. stands-read entries before s c.in-Read.client c.in-Read.op c.in-Read.key))
 
 pub returns-in-Olds-clause-ok : goal.returns-in-Olds-clause-ok
 returns-in-Olds-clause-ok c =
-    let rows : List Row = c.args.self.now.rows in
-    rw c.in-Olds.is (on_any c.olds.result (λ asks s. stands-olds (λ key. record_in rows key) (λ key t. has_stamp (olds_in rows key) t) c.args.self.now.watches.items asks s c.in-Olds.client c.in-Olds.op c.in-Olds.key))
+    let entries = map_entry c.args.self.now.entries.entries in
+    rw c.in-Olds.is (on_any c.olds.result (λ before s. stands-olds entries before s c.in-Olds.client c.in-Olds.op c.in-Olds.key))
 
 pub returns-in-Read-clause-addressed : goal.returns-in-Read-clause-addressed
 returns-in-Read-clause-addressed c =

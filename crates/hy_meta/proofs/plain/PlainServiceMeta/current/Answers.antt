@@ -3,7 +3,7 @@ use Rattle.std.proofs.Common.{◌≡◌, List, ◌∙◌, Some, None}
 use Rattle.hy_meta.specs.declared.rows.Row.{Row}
 use Rattle.hy_meta.specs.Rows.{row_of}
 use Rattle.hy_meta.proofs.Holds.{record_from}
-use Rattle.hy_meta.proofs.service.ServiceMeta.current.Goals as goal
+use Rattle.hy_meta.proofs.plain.PlainServiceMeta.current.Goals as goal
 
 pub returns-in_err-row : goal.returns-in_err-row
 returns-in_err-row c =
