@@ -12,7 +12,7 @@ mod Legal
 mod Illegal
 mod DueOrders
 mod Places
-mod Sets
+mod Marking
 mod Grouping
 mod Listed
 mod Verdicts

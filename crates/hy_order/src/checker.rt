@@ -3,7 +3,8 @@
 mod checking;
 mod index;
 mod listing;
+mod marks;
 mod real_time;
 mod register;
 
-pub use checking::{check, first_illegal};
+pub use checking::{check, first_illegal, legal_count};

@@ -1,22 +1,17 @@
 -- What the words of the command line ask for.
-use Rattle.std.specs.Prelude.{◌≡◌, ℕ, List, [], ◌∷◌, codes}
-use Rattle.hy_top.specs.declared.command.Command.{Command}
-use Rattle.hy_top.specs.declared.command.Command.TheVariants.{OnText}
-use Rattle.hy_top.specs.declared.command.TextCommand.{TextCommand}
-use Rattle.hy_top.specs.declared.command.TextCommand.TheVariants.{Replay, Check}
+use Rattle.std.specs.Prelude.{◌≡◌, ℕ, List, Ok}
+use Rattle.hy_words.specs.Words.{command_of}
+use Rattle.hy_words.specs.declared.command.Command.{Command}
+use Rattle.hy_words.specs.declared.command.Command.TheVariants.{OnText}
+use Rattle.hy_words.specs.declared.command.TextCommand.{TextCommand}
 
--- the name of a command on a text
-abbrev pub text_command_name : TextCommand → List ℕ
-text_command_name Replay = codes "replay"
-text_command_name Check = codes "check"
-
--- all commands on a text
-abbrev pub text_commands : List TextCommand
-text_commands = Replay ∷ Check ∷ []
-
--- the words ask for the command: one on a text is its name alone
+-- the words ask for the command
 abbrev pub Asks : List (List ℕ) → Command → Type 0
-Asks words (OnText command) = words ≡ text_command_name command ∷ []
+Asks words command = command_of words ≡ Ok command
+
+-- the words ask for a command on a text
+abbrev pub IsTextCommand : List (List ℕ) → Type 0
+IsTextCommand words = (command : TextCommand) × Asks words (OnText command)
 
 -- the words ask for a command
 abbrev pub IsCommand : List (List ℕ) → Type 0

@@ -5,11 +5,13 @@ use Rattle.hy_top.specs.Check.{Checks}
 use Rattle.hy_top.specs.Command.{Asks, IsCommand}
 use Rattle.hy_top.specs.Input.{IsWholeInput, IsUnreadable, IsOverlong}
 use Rattle.hy_top.specs.Line.{refusal_line}
+use Rattle.hy_top.specs.Make.{MakesSummary}
 use Rattle.hy_top.specs.Replay.{Replays}
-use Rattle.hy_top.specs.declared.command.Command.{Command}
-use Rattle.hy_top.specs.declared.command.Command.TheVariants.{OnText}
-use Rattle.hy_top.specs.declared.command.TextCommand.{TextCommand}
-use Rattle.hy_top.specs.declared.command.TextCommand.TheVariants.{Replay, Check}
+use Rattle.hy_top.specs.Vectors.{GivesVectors}
+use Rattle.hy_words.specs.declared.command.Command.{Command}
+use Rattle.hy_words.specs.declared.command.Command.TheVariants.{OnText, Make, Vectors}
+use Rattle.hy_words.specs.declared.command.TextCommand.{TextCommand}
+use Rattle.hy_words.specs.declared.command.TextCommand.TheVariants.{Replay, Check}
 use Rattle.hy_top.specs.declared.status.Status.{Status}
 use Rattle.hy_top.specs.declared.status.Status.TheVariants.{Done, BadWords, ReadFault, TooLong, NoMemory}
 
@@ -34,6 +36,8 @@ DoesOnText command input answer = ReadsAndMakes command input answer
 -- what a command answers over an input
 abbrev pub Does : Command → SourceUse → Result (List ℕ) Status → Type 0
 Does (OnText command) input answer = DoesOnText command input answer
+Does (Make seed events) input answer = MakesSummary seed events answer
+Does Vectors input answer = GivesVectors answer
 
 -- the words ask for a command, and it answered this
 pub record IsDone (words : List (List ℕ)) (input : SourceUse) (answer : Result (List ℕ) Status) : Type 0 where

@@ -2,7 +2,9 @@ pub mod Status
 pub mod Command
 pub mod Input
 pub mod Replay
+pub mod Vectors
 pub mod Line
 pub mod Check
+pub mod Make
 pub mod Job
 pub mod Answer

@@ -1,8 +1,8 @@
 //! The top call: the words of the command line, an input and an output, and a status.
 #![tactic(auto)]
 
-mod command;
 mod line;
+mod make_job;
 mod status;
 mod text_job;
 mod top;

@@ -254,6 +254,13 @@ fn other_words_are_refused_and_read_nothing(rt: HostRuntime) -> Result<(), Fail>
         &["check", "check"],
         &["replay", "check"],
         &["Check"],
+        &["make"],
+        &["make", "1"],
+        &["make", "01", "5"],
+        &["make", "1", "10001"],
+        &["make", "18446744073709551616", "1"],
+        &["make", "1", "5", "5"],
+        &["replay", "1", "5"],
     ] {
         let mut row = call_of(words, PUT_THEN_GET, Status::BadWords, "bad words\n");
         row.failing_read = 1;
@@ -262,6 +269,16 @@ fn other_words_are_refused_and_read_nothing(rt: HostRuntime) -> Result<(), Fail>
         assert_eq!(rt; written.as_str(), row.written);
     }
     Ok(())
+}
+
+#[test]
+fn made_schedules_are_summed_up_and_nothing_is_read(rt: HostRuntime) -> Result<(), Fail> {
+    let line = "made 10 steps 14 ops 2 finished 0 keys 1 legal 1\n";
+    let mut made = call_of(&["make", "1", "10"], PUT_THEN_GET, Status::Done, line);
+    made.failing_read = 1;
+    let mut failing_write = call_of(&["make", "1", "0"], "", Status::WriteFault, "");
+    failing_write.failing_write = 1;
+    all_answer(&rt, rt.alloc(), &[made, failing_write])
 }
 
 #[test]

@@ -4,12 +4,12 @@ ghost use Rattle.hy_top.specs.Check.{Checks};
 ghost use Rattle.hy_top.specs.Job.{Makes};
 ghost use Rattle.hy_top.specs.Replay.{Replays};
 
-use crate::command::TextCommand;
 use crate::line::legal_line;
 use crate::status::Status;
 use hy_base::Blob;
 use hy_order::{first_illegal, read_report, write_report};
 use hy_sched::read_schedule;
+use hy_words::TextCommand;
 use hy_world::replay;
 use std::alloc::Global;
 

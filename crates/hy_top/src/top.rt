@@ -5,15 +5,18 @@ ghost use Rattle.std.specs.String.{string_bytes};
 ghost use Rattle.hy_base.specs.Sink.{sink_use};
 ghost use Rattle.hy_base.specs.Source.{source_use};
 ghost use Rattle.hy_top.specs.Answer.{Answers, IsTold};
-ghost use Rattle.hy_top.specs.Command.{IsCommand};
+ghost use Rattle.hy_top.specs.Command.{IsTextCommand};
 ghost use Rattle.hy_top.specs.Input.{ReadsInput};
 ghost use Rattle.hy_top.specs.Job.{ComesTo, DoesOnText, status_due, text_due};
+ghost use Rattle.hy_top.specs.Vectors.{GivesVectors};
 
-use crate::command::{Command, TextCommand, command_of};
 use crate::line::refusal_line;
+use crate::make_job::made_line;
 use crate::status::Status;
 use crate::text_job::output_on;
 use hy_base::{Blob, MAX_INPUT, NoMemory, Sink, Source, read_all, write_all};
+use hy_vectors::vectors;
+use hy_words::{Command, TextCommand, read_command};
 use std::alloc::Global;
 
 /// Does the job that the words ask for, over this input and output, and tells how it went.
@@ -30,7 +33,7 @@ pub fn run<S: Source, K: Sink>(
         (source_use S.left S.faults input.old input.new)
         (sink_use K.written K.faults output.old output.new)
         result }
-    ensures unread { ¬ IsCommand (map string_bytes words.now.items) → input.new ≡ input.old }
+    ensures unread { ¬ IsTextCommand (map string_bytes words.now.items) → input.new ≡ input.old }
     ensures reads { S.faults input.old ≤ S.faults input.new }
     ensures writes { K.faults output.old ≤ K.faults output.new }
 {
@@ -42,13 +45,22 @@ pub fn run<S: Source, K: Sink>(
 fn answer_of<S: Source>(alloc: Global, words: &[String], input: &mut S) -> Result<Blob, Status>
     ensures answer { ComesTo (map string_bytes words.now)
         (source_use S.left S.faults input.old input.new) result }
-    ensures unread { ¬ IsCommand (map string_bytes words.now) → input.new ≡ input.old }
+    ensures unread { ¬ IsTextCommand (map string_bytes words.now) → input.new ≡ input.old }
     ensures reads { S.faults input.old ≤ S.faults input.new }
 {
-    match command_of(words) {
-        Some(Command::OnText(command)) => read_and_make(alloc, command, input),
-        None => Err(Status::BadWords),
+    match read_command(words) {
+        Ok(Command::OnText(command)) => read_and_make(alloc, command, input),
+        Ok(Command::Make { seed, events }) => made_line(alloc, seed, events),
+        Ok(Command::Vectors) => vectors_text(alloc),
+        Err(_) => Err(Status::BadWords),
     }
+}
+
+/// The worked values of the formats.
+fn vectors_text(alloc: Global) -> Result<Blob, Status>
+    ensures { GivesVectors result }
+{
+    Ok(vectors(alloc)?)
 }
 
 /// What the command makes of the text that the input is.

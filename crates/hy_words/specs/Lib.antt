@@ -1,3 +1,1 @@
-pub mod Given
-pub mod Operands
 pub mod Words

@@ -11,27 +11,10 @@ pub(crate) enum Name {
     Check,
     Make,
     Vectors,
-    Meta,
-    Cloud,
-    Put,
-    Get,
-    Delete,
-    Collect,
 }
 
 /// The names of all commands.
-pub(crate) const NAMES: [Name; 10] = [
-    Name::Replay,
-    Name::Check,
-    Name::Make,
-    Name::Vectors,
-    Name::Meta,
-    Name::Cloud,
-    Name::Put,
-    Name::Get,
-    Name::Delete,
-    Name::Collect,
-];
+pub(crate) const NAMES: [Name; 4] = [Name::Replay, Name::Check, Name::Make, Name::Vectors];
 
 impl Named for Name {
     ghost word_of = { name_word };
@@ -42,12 +25,6 @@ impl Named for Name {
             Name::Check => b"check",
             Name::Make => b"make",
             Name::Vectors => b"vectors",
-            Name::Meta => b"meta",
-            Name::Cloud => b"cloud",
-            Name::Put => b"put",
-            Name::Get => b"get",
-            Name::Delete => b"delete",
-            Name::Collect => b"collect",
         }
     }
 }

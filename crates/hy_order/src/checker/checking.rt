@@ -1,13 +1,15 @@
 //! Whether an order of a key is a linearization, and where it first fails to be one.
 
-ghost use Rattle.std.specs.Prelude.{◌≡◌, ◌↔◌, IfOk, None};
+ghost use Rattle.std.specs.Prelude.{◌≡◌, ◌+◌, ◌↔◌, IfOk, None, length};
 ghost use Rattle.std.specs.List.{AllByRecursion};
+ghost use Rattle.hy_order.specs.Checking.{AreBelow, AreMarksOf};
 ghost use Rattle.hy_order.specs.Linearization.{IsLinearization, IsLinearized, IsReportLinearizable};
 ghost use Rattle.hy_order.specs.ReportRanges.{IsReport};
-ghost use Rattle.hy_order.specs.Violation.{first_violation, first_illegal};
+ghost use Rattle.hy_order.specs.Violation.{first_violation, first_illegal, legal_count};
 
 use crate::checker::index::OperationIndex;
-use crate::checker::listing::{first_missing, first_repeated, first_stranger, operations_of};
+use crate::checker::listing::{first_missing, first_stranger, operations_of};
+use crate::checker::marks::mark_listed;
 use crate::checker::real_time::first_early;
 use crate::checker::register::first_wrong;
 use crate::history::History;
@@ -24,7 +26,8 @@ pub fn check(alloc: Global, history: &History, order: &Order) -> Result<Verdict,
     ensures legal { IfOk result (λ verdict. (verdict ≡ Verdict.Legal) ↔ IsLinearization history.now order.now.key order.now.ops) }
 {
     let index = OperationIndex::of(alloc, history)?;
-    verdict_on(alloc, &index, &order.key, order.ops.items())
+    let mut marks = no_marks(alloc, &index)?;
+    verdict_on(alloc, &index, &mut marks, 1, order)
 }
 
 /// The key of the first order of the report that is not legal, and the verdict on it.
@@ -38,19 +41,42 @@ pub fn first_illegal(alloc: Global, report: &Report) -> Result<Option<(Key, Verd
     ensures linearizable { IsReport report.now → IfOk result (λ found. (found ≡ None) ↔ IsReportLinearizable report.now) }
 {
     let index = OperationIndex::of(alloc, &report.history)?;
-    first_illegal_among(alloc, &index, report.orders.items())
+    let mut marks = no_marks(alloc, &index)?;
+    first_illegal_among(alloc, &index, &mut marks, report.orders.items())
+}
+
+/// How many orders of the report are legal, in the same time.
+pub fn legal_count(alloc: Global, report: &Report) -> Result<usize, NoMemory>
+    ensures count { IfOk result (λ count. count ≡ legal_count report.now.history report.now.orders) }
+    ensures all { IsReportLinearizable report.now → IfOk result (λ count. count ≡ length report.now.orders) }
+{
+    let index = OperationIndex::of(alloc, &report.history)?;
+    let mut marks = no_marks(alloc, &index)?;
+    legal_count_among(alloc, &index, &mut marks, report.orders.items())
+}
+
+/// Marks for the operations of the index, where no order has marked any.
+fn no_marks(alloc: Global, index: &OperationIndex) -> Result<Vec<usize>, NoMemory>
+    ensures marks { IfOk result (λ marks. AreMarksOf index.now marks.items) }
+    ensures none { IfOk result (λ marks. AreBelow 1 marks.items) }
+{
+    let marks = vec![in alloc; 0usize; index.len()]?;
+    Ok(marks)
 }
 
 /// The key of the first of these orders that is not legal, and the verdict on it.
 fn first_illegal_among(
     alloc: Global,
     index: &OperationIndex,
+    marks: &mut [usize],
     orders: &[Order],
 ) -> Result<Option<(Key, Verdict)>, NoMemory>
+    requires marks { AreMarksOf index.now marks.old }
+    requires none { AreBelow 1 marks.old }
     ensures { IfOk result (λ found. found ≡ first_illegal index.now orders.now) }
 {
-    for order in orders {
-        let verdict = verdict_on(alloc, index, &order.key, order.ops.items())?;
+    for (place, order) in orders.iter().enumerate() {
+        let verdict = verdict_on(alloc, index, marks, place + 1, order)?;
         if !verdict.is_legal() {
             return Ok(Some((order.key, verdict)));
         }
@@ -58,22 +84,50 @@ fn first_illegal_among(
     Ok(None)
 }
 
-/// The verdict on the numbers as an order of the key, by the index of the history.
+/// How many of these orders are legal.
+fn legal_count_among(
+    alloc: Global,
+    index: &OperationIndex,
+    marks: &mut [usize],
+    orders: &[Order],
+) -> Result<usize, NoMemory>
+    requires marks { AreMarksOf index.now marks.old }
+    requires none { AreBelow 1 marks.old }
+    ensures { IfOk result (λ count. count ≡ legal_count index.now orders.now) }
+{
+    let mut count = 0;
+    for (place, order) in orders.iter().enumerate() {
+        let verdict = verdict_on(alloc, index, marks, place + 1, order)?;
+        if verdict.is_legal() {
+            count += 1;
+        }
+    }
+    Ok(count)
+}
+
+/// The verdict on the order, by the index of the history. It marks the operations that it lists with
+/// this mark, above those of the orders before it.
 fn verdict_on(
     alloc: Global,
     index: &OperationIndex,
-    key: &Key,
-    numbers: &[u32],
+    marks: &mut [usize],
+    mark: usize,
+    order: &Order,
 ) -> Result<Verdict, NoMemory>
-    ensures { IfOk result (λ verdict. verdict ≡ first_violation index.now key.now numbers.now) }
+    requires marks { AreMarksOf index.now marks.old }
+    requires below { AreBelow mark marks.old }
+    ensures verdict { IfOk result (λ verdict. verdict ≡ first_violation index.now order.now.key order.now.ops) }
+    ensures below { AreBelow (mark + 1) marks.new }
 {
-    if let Some(number) = first_missing(alloc, index, key, numbers)? {
+    let numbers = order.ops.items();
+    let repeated = mark_listed(marks, mark, numbers);
+    if let Some(number) = first_missing(index, &order.key, marks, mark) {
         return Ok(Verdict::Missing(number));
     }
-    if let Some(number) = first_stranger(index, key, numbers) {
+    if let Some(number) = first_stranger(index, &order.key, numbers) {
         return Ok(Verdict::Stranger(number));
     }
-    if let Some(number) = first_repeated(alloc, numbers)? {
+    if let Some(number) = repeated {
         return Ok(Verdict::Twice(number));
     }
     let listed = operations_of(alloc, index, numbers)?;

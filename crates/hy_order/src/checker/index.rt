@@ -1,8 +1,9 @@
 //! The operations of a history by number and by key.
 
-ghost use Rattle.std.specs.Prelude.{◌≡◌, ◌∷◌, ◌++◌, ℕ, List, [], IfSome, IfNone, IfOk, OnOk, map};
+ghost use Rattle.std.specs.Prelude.{◌≡◌, ◌∷◌, ◌++◌, ℕ, List, [], IfSome, IfNone, IfOk, OnOk, length, map};
 ghost use Rattle.std.specs.List.{filter};
 ghost use Rattle.std.specs.Option.{option_copied};
+ghost use Rattle.hy_order.specs.History.{IsNumberedFrom};
 ghost use Rattle.hy_order.specs.Index.{IsGrouped, operations_under};
 ghost use Rattle.hy_order.specs.Linearization.{is_of_key, operation_at};
 
@@ -42,6 +43,14 @@ impl<'a> OperationIndex<'a> {
         let ops = history.items();
         let by_key = grouped(alloc, ops)?;
         Ok(OperationIndex { ops, by_key })
+    }
+
+    /// How many operations there are.
+    pub(crate) fn len(&self) -> usize
+        ensures count { result ≡ length self.now }
+        ensures numbered { IsNumberedFrom 1 self.now }
+    {
+        self.ops.len()
     }
 
     /// The operation of the number.

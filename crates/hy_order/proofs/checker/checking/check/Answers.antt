@@ -9,7 +9,5 @@ returns-clause-legal c =
     IfOk-weaker c.verdict_on.result _ _
     (λ verdict is.
     Legal-verdict c.args.history.now c.args.order.now.key c.args.order.now.ops verdict
-    (is
-    ∙ ap (λ history. first_violation history c.args.order.now.key c.items.result.now) c.in_ok-index.ensures
-    ∙ ap (first_violation c.args.history.now c.args.order.now.key) c.items.ensures))
-    c.verdict_on.ensures
+    (is ∙ ap (λ history. first_violation history c.args.order.now.key c.args.order.now.ops) c.in_ok-index.ensures))
+    c.verdict_on.ensures.verdict
