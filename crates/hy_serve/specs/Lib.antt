@@ -1,0 +1,5 @@
+pub mod Answer
+pub mod Course
+pub mod CloudRole
+pub mod CloudStanding
+pub mod CloudWaiting
