@@ -1,6 +1,5 @@
 -- No order of a report is illegal exactly where each is a linearization.
-use Rattle.std.proofs.Common.{◌≡◌, ℕ, suc, ◌+◌, arith, length, true, false, ◌↔◌, List, [], ◌∷◌, Option, Some, None, cond, refl, sym, ap, ◌∙◌}
-use Rattle.std.proofs.lemmas.List.Sums.{sum_by-cons}
+use Rattle.std.proofs.Common.{◌≡◌, ℕ, true, false, ◌↔◌, List, [], ◌∷◌, Option, Some, None, cond, refl, sym, ap, ◌∙◌}
 use Rattle.std.specs.List.{AllByRecursion}
 use Rattle.std.specs.Option.{option_or}
 use Rattle.hy_order.specs.declared.verdict.Verdict.{Verdict}
@@ -8,7 +7,7 @@ use Rattle.hy_order.specs.declared.verdict.Verdict.TheVariants.{Legal, Missing, 
 use Rattle.hy_order.specs.declared.operation.Operation.{Operation}
 use Rattle.hy_order.specs.declared.order.Order.{Order}
 use Rattle.hy_order.specs.Linearization.{IsLinearized}
-use Rattle.hy_order.specs.Violation.{first_violation, is_legal, illegal_order, first_illegal, legal_count}
+use Rattle.hy_order.specs.Violation.{first_violation, is_legal, illegal_order, first_illegal}
 use Rattle.hy_order.proofs.Legal.{Legal-IsLinearization}
 
 legal_verdict : (verdict : Verdict) (key : List ℕ) (rest : Option (List ℕ × Verdict)) → option_or (illegal_order key verdict) rest ≡ None → (verdict ≡ Legal) × (rest ≡ None)
@@ -46,14 +45,3 @@ pub illegal-later : (history : List Operation) (order : Order) (orders : List Or
 illegal-later history order orders verdict is legal =
     ap (λ verdict. option_or (illegal_order order.key verdict) (first_illegal history orders)) (sym is)
     ∙ ap (λ legal. option_or (cond legal None (Some (order.key, verdict))) (first_illegal history orders)) legal
-
--- where each order is a linearization, each is legal
-pub all_legal : (history : List Operation) (orders : List Order) → AllByRecursion (IsLinearized history) orders → legal_count history orders ≡ length orders
-all_legal history [] all = refl
-all_legal history (order ∷ orders) all =
-    let here : is_legal (first_violation history order.key order.ops) ≡ true = ap is_legal ((Legal-IsLinearization history order.key order.ops).1 all.0) in
-    sum_by-cons (λ (order : Order). cond (is_legal (first_violation history order.key order.ops)) 1 0) order orders
-    ∙ ap (λ legal. cond legal 1 0 + legal_count history orders) here ∙ ap (λ count. 1 + count) (all_legal history orders all.1) ∙ one_more (length orders)
-  where
-    one_more : (n : ℕ) → 1 + n ≡ suc n
-    one_more n = omega arith

@@ -1,12 +1,11 @@
 -- The marks of an order, and what they tell of the operations that it lists.
-use Rattle.std.proofs.Common.{◌≡◌, ℕ, ◌+◌, ◌-◌, ◌<◌, ◌≤◌, Bool, true, false, ◌==◌, ◌&&◌, ◌||◌, not, cond, List, [], ◌∷◌, ◌++◌, Option, Some, None, option_map, refl, sym, ap, ◌∙◌, subst, arith, length, get_or, take, drop, IsTrue, eq-eqb, ne_eqb}
-use Rattle.std.specs.Prelude.{nat_le, slice_index}
+use Rattle.std.proofs.Common.{◌≡◌, ℕ, ◌+◌, ◌-◌, ◌<◌, ◌≤◌, Bool, true, false, ◌==◌, ◌&&◌, ◌||◌, not, cond, List, [], ◌∷◌, ◌++◌, Option, Some, None, option_map, refl, sym, ap, ◌∙◌, subst, arith, length, get_or, take, drop}
+use Rattle.std.specs.Prelude.{slice_index}
 use Rattle.std.proofs.lemmas.List.{drop_more, take_more}
 use Rattle.std.proofs.lemmas.Bool.{cond-false, cond-true}
 use Rattle.std.proofs.lemmas.Bool.Decides.{nat_tests}
 use Rattle.std.proofs.lemmas.List.Folds.{list_any-append}
 use Rattle.std.specs.List.{AllByRecursion, filter, find}
-use Rattle.std.specs.Option.{option_or}
 use Rattle.hy_order.specs.declared.operation.Operation.{Operation}
 use Rattle.hy_order.specs.Checking.{AreBelow, AreMarked, ArePlaces, IsPlace, is_marked, unlisted_number}
 use Rattle.hy_order.specs.History.{IsNumberedFrom}
@@ -50,9 +49,10 @@ module _ (key numbers marks : List ℕ) (order : ℕ) (are : AreMarked numbers o
   agrees : (first : ℕ) (ops : List Operation) → 1 ≤ first → first + length ops ≤ length marks + 1 → IsNumberedFrom first ops
       → AllByRecursion (λ op. ((is_of_key key op && is_finished op.end) && not (is_marked marks order op.number)) ≡ ((is_of_key key op && is_finished op.end) && not (is_listed numbers op.number))) ops
   agrees first [] low high numbered = tt
-  agrees first (op ∷ ops) low high numbered =
-      (ap (λ b. (is_of_key key op && is_finished op.end) && not b) (are op.number (omega arith, omega arith)),
-       agrees (first + 1) ops (omega arith) (omega arith) numbered.1)
+  agrees first (op ∷ ops) low high numbered = (
+    ap (λ b. (is_of_key key op && is_finished op.end) && not b) (are op.number (omega arith, omega arith)),
+    agrees (first + 1) ops (omega arith) (omega arith) numbered.1,
+  )
 
   pub unlisted-missing : (history : List Operation) → length marks ≡ length history → IsNumberedFrom 1 history
       → unlisted_number (is_marked marks order) (filter (is_of_key key) history) ≡ missing_number history key numbers

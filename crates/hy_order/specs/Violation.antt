@@ -1,5 +1,5 @@
 -- The first violation that keeps an order of a key from being a linearization.
-use Rattle.std.specs.Prelude.{ℕ, ◌==◌, Bool, true, false, ◌&&◌, not, if◌then◌else◌, List, [], ◌∷◌, ◌++◌, Option, Some, None, is_none, count_by}
+use Rattle.std.specs.Prelude.{ℕ, ◌==◌, Bool, true, false, ◌&&◌, not, if◌then◌else◌, List, [], ◌∷◌, ◌++◌, Option, Some, None, is_none}
 use Rattle.std.specs.List.{find, list_any}
 use Rattle.std.specs.Option.{option_map, option_or, option_map_or}
 use Rattle.std.specs.Str.{bytes_eq}
@@ -97,8 +97,3 @@ abbrev pub first_illegal : List Operation → List Order → Option (List ℕ ×
 first_illegal history [] = None
 first_illegal history (order ∷ orders) =
     option_or (illegal_order order.key (first_violation history order.key order.ops)) (first_illegal history orders)
-
--- how many of the orders have no violation
-abbrev pub legal_count : List Operation → List Order → ℕ
-legal_count history orders =
-    count_by (λ (order : Order). is_legal (first_violation history order.key order.ops)) orders

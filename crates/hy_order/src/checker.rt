@@ -7,4 +7,4 @@ mod marks;
 mod real_time;
 mod register;
 
-pub use checking::{check, first_illegal, legal_count};
+pub use checking::{check, first_illegal};

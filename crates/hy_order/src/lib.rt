@@ -12,7 +12,7 @@ mod report;
 mod text;
 mod verdict;
 
-pub use checker::{check, first_illegal, legal_count};
+pub use checker::{check, first_illegal};
 pub use held::{Held, HeldList};
 pub use history::History;
 pub use laws::{legal_exactly_for_linearizations, reports_are_read_back};

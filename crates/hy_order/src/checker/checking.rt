@@ -1,11 +1,11 @@
 //! Whether an order of a key is a linearization, and where it first fails to be one.
 
-ghost use Rattle.std.specs.Prelude.{◌≡◌, ◌+◌, ◌↔◌, IfOk, None, length};
+ghost use Rattle.std.specs.Prelude.{◌≡◌, ◌+◌, ◌↔◌, IfOk, None};
 ghost use Rattle.std.specs.List.{AllByRecursion};
 ghost use Rattle.hy_order.specs.Checking.{AreBelow, AreMarksOf};
 ghost use Rattle.hy_order.specs.Linearization.{IsLinearization, IsLinearized, IsReportLinearizable};
 ghost use Rattle.hy_order.specs.ReportRanges.{IsReport};
-ghost use Rattle.hy_order.specs.Violation.{first_violation, first_illegal, legal_count};
+ghost use Rattle.hy_order.specs.Violation.{first_violation, first_illegal};
 
 use crate::checker::index::OperationIndex;
 use crate::checker::listing::{first_missing, first_stranger, operations_of};
@@ -45,16 +45,6 @@ pub fn first_illegal(alloc: Global, report: &Report) -> Result<Option<(Key, Verd
     first_illegal_among(alloc, &index, &mut marks, report.orders.items())
 }
 
-/// How many orders of the report are legal, in the same time.
-pub fn legal_count(alloc: Global, report: &Report) -> Result<usize, NoMemory>
-    ensures count { IfOk result (λ count. count ≡ legal_count report.now.history report.now.orders) }
-    ensures all { IsReportLinearizable report.now → IfOk result (λ count. count ≡ length report.now.orders) }
-{
-    let index = OperationIndex::of(alloc, &report.history)?;
-    let mut marks = no_marks(alloc, &index)?;
-    legal_count_among(alloc, &index, &mut marks, report.orders.items())
-}
-
 /// Marks for the operations of the index, where no order has marked any.
 fn no_marks(alloc: Global, index: &OperationIndex) -> Result<Vec<usize>, NoMemory>
     ensures marks { IfOk result (λ marks. AreMarksOf index.now marks.items) }
@@ -82,27 +72,6 @@ fn first_illegal_among(
         }
     }
     Ok(None)
-}
-
-/// How many of these orders are legal.
-fn legal_count_among(
-    alloc: Global,
-    index: &OperationIndex,
-    marks: &mut [usize],
-    orders: &[Order],
-) -> Result<usize, NoMemory>
-    requires marks { AreMarksOf index.now marks.old }
-    requires none { AreBelow 1 marks.old }
-    ensures { IfOk result (λ count. count ≡ legal_count index.now orders.now) }
-{
-    let mut count = 0;
-    for (place, order) in orders.iter().enumerate() {
-        let verdict = verdict_on(alloc, index, marks, place + 1, order)?;
-        if verdict.is_legal() {
-            count += 1;
-        }
-    }
-    Ok(count)
 }
 
 /// The verdict on the order, by the index of the history. It marks the operations that it lists with

@@ -3,6 +3,7 @@
 use super::*;
 use crate::read_report;
 use hy_base::Numbers;
+use std::process::Abort;
 use std::test::Fail;
 
 /// Two puts of a key, one after the other.
@@ -35,37 +36,6 @@ order a\n\
 order b\n\
 end 10 2\n";
 
-/// Orders of the first key of the history of all kinds.
-const ORDERS: [(&[u32], Verdict); 24] = [
-    (&[1, 2, 3, 4, 5], Verdict::Legal),
-    (&[1, 2, 3, 4, 5, 7], Verdict::Legal),
-    (&[], Verdict::Missing(1)),
-    (&[1, 2, 4, 5], Verdict::Missing(3)),
-    (&[1, 2, 3, 5], Verdict::Missing(4)),
-    (&[11, 5, 5, 3, 2], Verdict::Missing(1)),
-    (&[0, 1, 2, 3, 4, 5], Verdict::Stranger(0)),
-    (&[1, 2, 3, 4, 5, 11], Verdict::Stranger(11)),
-    (
-        &[1, 2, 3, 4, 5, 4_294_967_295],
-        Verdict::Stranger(4_294_967_295),
-    ),
-    (&[1, 2, 3, 4, 5, 6], Verdict::Stranger(6)),
-    (&[1, 2, 3, 4, 5, 8], Verdict::Stranger(8)),
-    (&[1, 2, 3, 4, 5, 9], Verdict::Stranger(9)),
-    (&[1, 1, 2, 3, 10, 4, 5, 8], Verdict::Stranger(10)),
-    (&[1, 2, 3, 4, 5, 1], Verdict::Twice(1)),
-    (&[5, 2, 3, 2, 3, 4, 1], Verdict::Twice(2)),
-    (&[1, 2, 3, 4, 5, 7, 7], Verdict::Twice(7)),
-    (&[5, 3, 2, 1, 4], Verdict::Early(3, 5)),
-    (&[1, 4, 5, 3, 2], Verdict::Early(3, 4)),
-    (&[1, 2, 3, 4, 7, 5], Verdict::Early(5, 7)),
-    (&[3, 1, 2, 4, 5], Verdict::Early(1, 3)),
-    (&[2, 1, 3, 4, 5], Verdict::Wrong(3)),
-    (&[1, 3, 2, 4, 5], Verdict::Wrong(3)),
-    (&[1, 2, 3, 5, 4], Verdict::Wrong(5)),
-    (&[1, 3, 2, 5, 4], Verdict::Wrong(3)),
-];
-
 /// The verdict on the numbers as an order of the key.
 fn verdict(
     alloc: Global,
@@ -77,52 +47,100 @@ fn verdict(
     check(alloc, history, &Order { key, ops })
 }
 
-#[test]
-fn checker_real_time(rt: HostRuntime) -> Result<(), Fail> {
-    let key = Key::read(b"a").ok().ok_or("a key")?;
-    let history = read_report(rt.alloc(), TWO_PUTS)?.history;
-    assert_eq!(rt;
-        verdict(rt.alloc(), &history, key, &[2, 1])?,
-        Verdict::Early(1, 2)
-    );
-    Ok(())
-}
-
-#[test]
-fn checker_verdicts(rt: HostRuntime) -> Result<(), Fail> {
-    let key = Key::read(b"a").ok().ok_or("a key")?;
-    let history = read_report(rt.alloc(), PUT_AND_GET)?.history;
-    for (numbers, expected) in [
-        ([1, 2].as_slice(), Verdict::Legal),
-        ([1].as_slice(), Verdict::Missing(2)),
-        ([2, 1].as_slice(), Verdict::Early(1, 2)),
-    ] {
-        assert_eq!(rt; verdict(rt.alloc(), &history, key, numbers)?, expected);
-    }
-    Ok(())
-}
-
-#[test]
-fn names_the_first_violation(rt: HostRuntime) -> Result<(), Fail> {
-    let key = Key::read(b"a").ok().ok_or("a key")?;
-    let history = read_report(rt.alloc(), ALL_KINDS)?.history;
-    for (numbers, expected) in ORDERS {
+/// The numbers have the verdicts, as orders of the key in the history that the text of a report has.
+fn all_have(
+    rt: &impl Abort,
+    alloc: Global,
+    text: &[u8],
+    key: &[u8],
+    orders: &[(&[u32], Verdict)],
+) -> Result<(), Fail> {
+    let key = Key::read(key).ok().ok_or("a key")?;
+    let history = read_report(alloc, text)?.history;
+    for (numbers, expected) in orders {
         assert_eq!(rt;
-            verdict(rt.alloc(), &history, key, numbers)?,
-            expected,
+            verdict(alloc, &history, key, numbers)?,
+            *expected,
             "at {numbers:?}"
         );
     }
-    let other = Key::read(b"b").ok().ok_or("another key")?;
-    assert_eq!(rt;
-        verdict(rt.alloc(), &history, other, &[10])?,
-        Verdict::Legal
-    );
-    assert_eq!(rt;
-        verdict(rt.alloc(), &history, other, &[])?,
-        Verdict::Missing(10)
-    );
     Ok(())
+}
+
+#[test]
+fn legal_orders_and_those_with_other_operations(rt: HostRuntime) -> Result<(), Fail> {
+    all_have(
+        &rt,
+        rt.alloc(),
+        PUT_AND_GET,
+        b"a",
+        &[
+            (&[1, 2], Verdict::Legal),
+            (&[1], Verdict::Missing(2)),
+            (&[2, 1], Verdict::Early(1, 2)),
+        ],
+    )?;
+    all_have(
+        &rt,
+        rt.alloc(),
+        ALL_KINDS,
+        b"b",
+        &[(&[10], Verdict::Legal), (&[], Verdict::Missing(10))],
+    )?;
+    all_have(
+        &rt,
+        rt.alloc(),
+        ALL_KINDS,
+        b"a",
+        &[
+            (&[1, 2, 3, 4, 5], Verdict::Legal),
+            (&[1, 2, 3, 4, 5, 7], Verdict::Legal),
+            (&[], Verdict::Missing(1)),
+            (&[1, 2, 4, 5], Verdict::Missing(3)),
+            (&[1, 2, 3, 5], Verdict::Missing(4)),
+            (&[11, 5, 5, 3, 2], Verdict::Missing(1)),
+            (&[0, 1, 2, 3, 4, 5], Verdict::Stranger(0)),
+            (&[1, 2, 3, 4, 5, 11], Verdict::Stranger(11)),
+            (
+                &[1, 2, 3, 4, 5, 4_294_967_295],
+                Verdict::Stranger(4_294_967_295),
+            ),
+            (&[1, 2, 3, 4, 5, 6], Verdict::Stranger(6)),
+            (&[1, 2, 3, 4, 5, 8], Verdict::Stranger(8)),
+            (&[1, 2, 3, 4, 5, 9], Verdict::Stranger(9)),
+            (&[1, 1, 2, 3, 10, 4, 5, 8], Verdict::Stranger(10)),
+        ],
+    )
+}
+
+#[test]
+fn orders_of_the_right_operations(rt: HostRuntime) -> Result<(), Fail> {
+    all_have(
+        &rt,
+        rt.alloc(),
+        TWO_PUTS,
+        b"a",
+        &[(&[2, 1], Verdict::Early(1, 2))],
+    )?;
+    all_have(
+        &rt,
+        rt.alloc(),
+        ALL_KINDS,
+        b"a",
+        &[
+            (&[1, 2, 3, 4, 5, 1], Verdict::Twice(1)),
+            (&[5, 2, 3, 2, 3, 4, 1], Verdict::Twice(2)),
+            (&[1, 2, 3, 4, 5, 7, 7], Verdict::Twice(7)),
+            (&[5, 3, 2, 1, 4], Verdict::Early(3, 5)),
+            (&[1, 4, 5, 3, 2], Verdict::Early(3, 4)),
+            (&[1, 2, 3, 4, 7, 5], Verdict::Early(5, 7)),
+            (&[3, 1, 2, 4, 5], Verdict::Early(1, 3)),
+            (&[2, 1, 3, 4, 5], Verdict::Wrong(3)),
+            (&[1, 3, 2, 4, 5], Verdict::Wrong(3)),
+            (&[1, 2, 3, 5, 4], Verdict::Wrong(5)),
+            (&[1, 3, 2, 5, 4], Verdict::Wrong(3)),
+        ],
+    )
 }
 
 #[test]

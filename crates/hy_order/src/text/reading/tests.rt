@@ -2,6 +2,7 @@ use super::*;
 use crate::text::writing::write_report;
 use hy_base::TextFault;
 use hy_text::{push_number, push_number_word};
+use std::process::Abort;
 use std::test::Fail;
 
 const WHOLE: &[u8] = b"op 1 1 put a 00ff 1 7 done 1 1\n\
@@ -24,68 +25,68 @@ const HELD: &[u8] = b"op 1 1 put a - 1 7 done 1 1\norder a 1\nheld a 1 1 0\n";
 
 const ENDED: &[u8] = b"op 1 1 put a - 1 7 done 1 1\norder a 1\nheld a 1 1 0\nend 1 1\n";
 
-/// Lines of a second operation, each with the cause of its first bad word.
-const BAD_OPERATIONS: [(&[u8], Cause); 25] = [
-    (b"op 3 1 get a 8 - read 0 1", Cause::BadNumber),
-    (b"op 02 1 get a 8 - read 0 1", Cause::BadNumber),
-    (b"op  2 1 get a 8 - read 0 1", Cause::BadNumber),
-    (b"op 2 0 get a 8 - read 0 1", Cause::BadNumber),
-    (b"op 2 4294967296 get a 8 - read 0 1", Cause::BadNumber),
-    (b"op 2 1 fly a 8 - read 0 1", Cause::BadWord),
-    (b"op 2 1 get A 8 - read 0 1", Cause::BadKey),
-    (b"op 2 1 put a 0 8 - read 0 1", Cause::BadHex),
-    (b"op 2 1 get a 1 - read 0 1", Cause::BadNumber),
+/// Lines of a second operation, by the cause of the first bad word of each.
+const BAD_OPERATIONS: [(Cause, &[u8]); 5] = [
     (
-        b"op 2 1 get a 9223372036854775809 - read 0 1",
         Cause::BadNumber,
+        b"op 3 1 get a 8 - read 0 1
+op 02 1 get a 8 - read 0 1
+op  2 1 get a 8 - read 0 1
+op 2 0 get a 8 - read 0 1
+op 2 4294967296 get a 8 - read 0 1
+op 2 1 get a 1 - read 0 1
+op 2 1 get a 9223372036854775809 - read 0 1
+op 2 1 get a 8 8 none 0 0
+op 2 1 get a 8 9223372036854775809 none 0 0
+op 2 1 get a 8 + read 0 1
+op 2 1 collect a 8 9 collected -1
+op 2 1 get a 8 9 none 4294967295 0
+op 2 1 get a 8 9 none 0 4294967296
+op 2 1 collect a 8 9 collected 4294967296
+op 2 1 get a 8 - read 4294967296 1
+op 2 1 get a 8 - read 0 4294967296
+op 2 1 get a 8 - read 0
+op 2 1 get a 8 - read 0 1\r",
     ),
-    (b"op 2 1 get a 8 8 none 0 0", Cause::BadNumber),
     (
-        b"op 2 1 get a 8 9223372036854775809 none 0 0",
-        Cause::BadNumber,
+        Cause::BadWord,
+        b"op 2 1 fly a 8 - read 0 1
+op 2 1 get a 8 9 done 1 1
+op 2 1 delete a 8 9 none 0 0
+op 2 1 delete a 8 - store 0 1",
     ),
-    (b"op 2 1 get a 8 + read 0 1", Cause::BadNumber),
-    (b"op 2 1 get a 8 9 done 1 1", Cause::BadWord),
-    (b"op 2 1 delete a 8 9 none 0 0", Cause::BadWord),
-    (b"op 2 1 collect a 8 9 collected -1", Cause::BadNumber),
-    (b"op 2 1 delete a 8 - store 0 1", Cause::BadWord),
-    (b"op 2 1 get a 8 9 none 4294967295 0", Cause::BadNumber),
-    (b"op 2 1 get a 8 9 none 0 4294967296", Cause::BadNumber),
-    (
-        b"op 2 1 collect a 8 9 collected 4294967296",
-        Cause::BadNumber,
-    ),
-    (b"op 2 1 get a 8 - read 4294967296 1", Cause::BadNumber),
-    (b"op 2 1 get a 8 - read 0 4294967296", Cause::BadNumber),
-    (b"op 2 1 get a 8 - read 0", Cause::BadNumber),
-    (b"op 2 1 get a 8 - read 0 1 ", Cause::Extra),
-    (b"op 2 1 get a 8 - read 0 1\r", Cause::BadNumber),
+    (Cause::BadKey, b"op 2 1 get A 8 - read 0 1"),
+    (Cause::BadHex, b"op 2 1 put a 0 8 - read 0 1"),
+    (Cause::Extra, b"op 2 1 get a 8 - read 0 1 "),
 ];
 
-/// Lines after a text, each with its number and the cause of its first bad word.
-const BAD_LINES: [(&[u8], &[u8], u32, Cause); 22] = [
-    (FIRST, b"", 2, Cause::BadWord),
-    (FIRST, b"held a 1 1 -", 2, Cause::BadWord),
-    (FIRST, b"order b 1", 2, Cause::BadKey),
-    (FIRST, b"order a 0", 2, Cause::BadNumber),
-    (FIRST, b"order a 1 ", 2, Cause::BadNumber),
-    (FIRST, b"order a 1 4294967296", 2, Cause::BadNumber),
-    (ORDERED, b"op 2 1 get a 8 - read 0 1", 3, Cause::BadWord),
-    (ORDERED, b"order b 1", 3, Cause::BadWord),
-    (ORDERED, b"held A 1 1 -", 3, Cause::BadKey),
-    (ORDERED, b"held a 4294967295 1 -", 3, Cause::BadNumber),
-    (ORDERED, b"held a 1 1 1,0", 3, Cause::BadNumber),
-    (ORDERED, b"held a 1 1 0,", 3, Cause::BadNumber),
-    (ORDERED, b"held a 1 1 10", 3, Cause::BadNumber),
-    (ORDERED, b"held a 1 1", 3, Cause::BadNumber),
-    (ORDERED, b"held a 1 1 - -", 3, Cause::Extra),
-    (HELD, b"held a 1 1 -", 4, Cause::BadKey),
-    (HELD, b"held Z 1 1 -", 4, Cause::BadKey),
-    (HELD, b"end 2 1", 4, Cause::BadNumber),
-    (HELD, b"end 1 2", 4, Cause::BadNumber),
-    (HELD, b"end 1 1 ", 4, Cause::Extra),
-    (ENDED, b"held b 1 1 -", 5, Cause::Extra),
-    (ENDED, b"", 5, Cause::Extra),
+/// Lines after a text, with their number, by the cause of the first bad word of each.
+const BAD_LINES: [(&[u8], u32, Cause, &[u8]); 10] = [
+    (FIRST, 2, Cause::BadWord, b"\nheld a 1 1 -"),
+    (FIRST, 2, Cause::BadKey, b"order b 1"),
+    (
+        FIRST,
+        2,
+        Cause::BadNumber,
+        b"order a 0\norder a 1 \norder a 1 4294967296",
+    ),
+    (
+        ORDERED,
+        3,
+        Cause::BadWord,
+        b"op 2 1 get a 8 - read 0 1\norder b 1",
+    ),
+    (ORDERED, 3, Cause::BadKey, b"held A 1 1 -"),
+    (
+        ORDERED,
+        3,
+        Cause::BadNumber,
+        b"held a 4294967295 1 -\nheld a 1 1 1,0\nheld a 1 1 0,\nheld a 1 1 10\nheld a 1 1",
+    ),
+    (ORDERED, 3, Cause::Extra, b"held a 1 1 - -"),
+    (HELD, 4, Cause::BadKey, b"held a 1 1 -\nheld Z 1 1 -"),
+    (HELD, 4, Cause::BadNumber, b"end 2 1\nend 1 2"),
+    (ENDED, 5, Cause::Extra, b"held b 1 1 -\n"),
 ];
 
 fn fault(line: u32, cause: Cause) -> Option<TextError> {
@@ -116,13 +117,20 @@ fn report_is_read_and_written(rt: HostRuntime) -> Result<(), Fail> {
     Ok(())
 }
 
-#[test]
-fn first_bad_word_of_an_operation_is_named(rt: HostRuntime) -> Result<(), Fail> {
-    for (line, cause) in BAD_OPERATIONS {
-        let text = with_line(rt.alloc(), FIRST, line)?;
+/// Each of the lines is refused in its place after the text, for this cause.
+fn all_are_refused(
+    rt: &impl Abort,
+    alloc: Global,
+    front: &[u8],
+    number: u32,
+    cause: Cause,
+    lines: &[u8],
+) -> Result<(), Fail> {
+    for line in lines.split(|byte| *byte == b'\n') {
+        let text = with_line(alloc, front, line)?;
         assert_eq!(rt;
-            read_report(rt.alloc(), text.as_slice()).err(),
-            fault(2, cause),
+            read_report(alloc, text.as_slice()).err(),
+            fault(number, cause),
             "at {line:?}"
         );
     }
@@ -130,16 +138,14 @@ fn first_bad_word_of_an_operation_is_named(rt: HostRuntime) -> Result<(), Fail> 
 }
 
 #[test]
-fn first_bad_word_of_another_line_is_named(rt: HostRuntime) -> Result<(), Fail> {
-    for (front, line, number, cause) in BAD_LINES {
-        let text = with_line(rt.alloc(), front, line)?;
-        assert_eq!(rt;
-            read_report(rt.alloc(), text.as_slice()).err(),
-            fault(number, cause),
-            "at {line:?}"
-        );
+fn first_bad_word_is_named(rt: HostRuntime) -> Result<(), Fail> {
+    for (cause, lines) in BAD_OPERATIONS {
+        all_are_refused(&rt, rt.alloc(), FIRST, 2, cause, lines)?;
     }
-    Ok(())
+    for (front, number, cause, lines) in BAD_LINES {
+        all_are_refused(&rt, rt.alloc(), front, number, cause, lines)?;
+    }
+    all_are_refused(&rt, rt.alloc(), HELD, 4, Cause::Extra, b"end 1 1 ")
 }
 
 #[test]

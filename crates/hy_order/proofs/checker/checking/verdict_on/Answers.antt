@@ -1,4 +1,4 @@
-use Rattle.std.proofs.Common.{◌≡◌, ℕ, List, None, Some, ◌∙◌, sym, ap, subst, length}
+use Rattle.std.proofs.Common.{◌≡◌, ℕ, None, ◌∙◌, sym, ap, subst, length}
 use Rattle.hy_order.specs.Checking.{ArePlaces}
 use Rattle.hy_order.specs.Linearization.{listed}
 use Rattle.hy_order.specs.Violation.{missing_number, stranger_number, repeated_number, early_numbers, wrong_number}
