@@ -79,7 +79,7 @@ unfinished-return p c o t trace none = by (return_of p c o t) refl
         absurd (none-some r.reply (sym none ∙ ap (reply_after p c o (inputs_of c o t)) h.began ∙ h.replies))
 
 -- an operation that took no input has no reply
-no-reply : (p : Params) (c o : ℕ) (a : Action) → replied p.f p.k c o a [] ≡ None
+pub no-reply : (p : Params) (c o : ℕ) (a : Action) → replied p.f p.k c o a [] ≡ None
 unfolding replied write_reply read_reply collect_reply
 no-reply p c o (asked.Put key value) = refl
 no-reply p c o (asked.Delete key) = refl

@@ -10,3 +10,7 @@ pub mod Sorting
 pub mod Spreading
 pub mod Telling
 pub mod Timing
+pub mod DeedAt
+pub mod FirstMade
+pub mod TraceRuns
+pub mod TracePoints

@@ -1,6 +1,7 @@
 //! The points of a run: the moments that decide the orders of its operations.
 
 ghost use Rattle.std.specs.Prelude.{◌≡◌, List, map, IfOk};
+ghost use Rattle.hy_points.specs.Atomic.{IsAtomicLog, AsksOnce};
 ghost use Rattle.hy_points.specs.Marks.{sorted_by};
 ghost use Rattle.hy_trace.specs.Deeds.{Params as TraceParams, Deed};
 ghost use Rattle.hy_trace.specs.Trace.{IsTrace};
@@ -30,8 +31,12 @@ impl Log {
     /// It takes time n log n in the operations. More than 4,294,967,295 of them are refused as want of
     /// memory.
     pub fn points(&self, alloc: Global) -> Result<PointLog, NoMemory>
-        ensures { IfOk result (λ points. (p : TraceParams) (t : List Deed) →
+        ensures points { IfOk result (λ points. (p : TraceParams) (t : List Deed) →
             IsTrace p t → Keeps self.now p t → points ≡ points_of p t) }
+        ensures atomic { IfOk result (λ points. (p : TraceParams) (t : List Deed) →
+            IsTrace p t → Keeps self.now p t → IsAtomicLog points) }
+        ensures once { IfOk result (λ points. (p : TraceParams) (t : List Deed) →
+            IsTrace p t → Keeps self.now p t → AsksOnce points) }
     {
         let moments = self.moments(alloc)?;
         let sorted = in_order(moments)?;

@@ -59,7 +59,7 @@ no-asking : (op : ℕ) → last_asking [] op ≡ asking [] op
 unfolding last_asking asking
 no-asking op = refl
 
-eqb-same : (n : ℕ) → (n == n) ≡ true
+pub eqb-same : (n : ℕ) → (n == n) ≡ true
 eqb-same n = grind (arith, nat_tests)
 
 module _ (log : List Point) (atomic : IsAtomicLog log) where

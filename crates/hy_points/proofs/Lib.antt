@@ -1,15 +1,16 @@
 pub mod Sorting
-mod Moments
+pub mod Moments
 mod Tellings
 mod Raising
 mod Marking
-mod Places
-mod Heights
+pub mod Places
+pub mod Heights
 pub mod InOrder
-mod Courses
+pub mod Courses
 mod Placing
-mod Listing
-mod ByMoment
+pub mod Listing
+pub mod ByMoment
 mod LogLaw
 mod ByStamp
 mod StampLaw
+pub mod RunLog

@@ -1,4 +1,4 @@
-//! The two servers over a net: a cloud, and the metadata service.
+//! The servers over a net: a cloud.
 #![tactic(auto)]
 
 mod answer;

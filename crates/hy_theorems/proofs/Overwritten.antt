@@ -122,7 +122,7 @@ top-asked t key s is above = by_record (record_after (served t) key) refl is
     by_record (Some r) was e = (let a = record-asked (served t) key r was in (a.0, a.1, r, a.2, e, a.3))
 
 -- where the record had a timestamp, an update of it was applied
-at-asked : (t : List Deed) (key : List ℕ) (n : ℕ) (s : Timestamp) → top_at t key n ≡ s → stamp_lt zero_stamp s ≡ true → (c o : ℕ) × (r : RecordValue) × IsAsked (served t) (asks.Update c o key r) × (r.stamp ≡ s) × (was_applied (served t) c o ≡ true)
+pub at-asked : (t : List Deed) (key : List ℕ) (n : ℕ) (s : Timestamp) → top_at t key n ≡ s → stamp_lt zero_stamp s ≡ true → (c o : ℕ) × (r : RecordValue) × IsAsked (served t) (asks.Update c o key r) × (r.stamp ≡ s) × (was_applied (served t) c o ≡ true)
 unfolding top_at
 at-asked [] key n s is above = top-asked [] key s is above
 at-asked (d ∷ t) key n s is above =
@@ -151,7 +151,7 @@ module _ (p : Params) (t : List Deed) (trace : IsTrace p t) (c o : ℕ) (key : L
       both_ways u.is_applied refused (first-applied p c o t u trace first applied)
 
   -- the first update of the write is of its key, and has its timestamp
-  own-update : (u : Update) → first_update (is_own c o) t ≡ Some u → (u.key ≡ key) × (u.stamp ≡ s)
+  pub own-update : (u : Update) → first_update (is_own c o) t ≡ Some u → (u.key ≡ key) × (u.stamp ≡ s)
   own-update u first =
       let f = first-served (is_own c o) t u first in
       let own = own-parts c o u f.1 in

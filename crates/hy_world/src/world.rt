@@ -40,6 +40,7 @@ impl<M: Meta + Drop> WorldOver<M> {
     ghost use Rattle.hy_trace.specs.History.{history_of};
     ghost use Rattle.hy_trace.specs.Report.{report_of};
     ghost use Rattle.hy_log.specs.Points.{points_of};
+    ghost use Rattle.hy_points.specs.Atomic.{IsAtomicLog, AsksOnce};
     ghost use Rattle.hy_world.specs.Promises.{StaysRetrievable, StarvesOnlyOld, RefreshesAtMost, DeletesOnlyOld};
     ghost use Rattle.hy_world.specs.World.{StandsForSteps, StandsForSome, IsBroken, events_taken};
 
@@ -138,11 +139,13 @@ impl<M: Meta + Drop> WorldOver<M> {
     }
 
     /// The moments at which the puts, gets and deletes began, read, wrote and returned, in the order
-    /// of their steps.
+    /// of their steps: an atomic log in which no operation reads twice.
     pub fn points(&self, alloc: Global) -> Result<PointLog, NoMemory>
-        ensures { IfOk result (λ points. (p : TraceParams) (steps : List Step) →
+        ensures points { IfOk result (λ points. (p : TraceParams) (steps : List Step) →
             StandsForSteps M.served M.given p steps self.now →
             points ≡ points_of p (trace_of p steps)) }
+        ensures atomic { StandsForSome M.served M.given self.now → IfOk result IsAtomicLog }
+        ensures once { StandsForSome M.served M.given self.now → IfOk result AsksOnce }
     {
         let points = self.simulation.log.points(alloc)?;
         Ok(points)
