@@ -4,7 +4,7 @@ use Rattle.hy_base.specs.Sink.{SinkUse}
 use Rattle.hy_top.specs.Answer.{IsWritten, IsTold}
 use Rattle.hy_top.specs.Job.{status_due}
 use Rattle.hy_top.specs.declared.status.Status.{Status}
-use Rattle.hy_top.specs.declared.status.Status.TheVariants.{Done, BadInput, BadWords, ReadFault, WriteFault, NoMemory, TooLong, Illegal}
+use Rattle.hy_top.specs.declared.status.Status.TheVariants.{Done, BadInput, BadWords, ReadFault, WriteFault, NetFault, NoMemory, TooLong, Illegal}
 
 -- an answer whose text was written is told by its status
 told_as_due : (answer : Result (List ℕ) Status) (output : SinkUse) → (answer ≡ Err WriteFault → ⊥) → IsWritten answer output → IsTold answer output (status_due answer)
@@ -15,6 +15,7 @@ told_as_due (Err Done) output other written = (refl, written)
 told_as_due (Err (BadInput fault)) output other written = (refl, written)
 told_as_due (Err BadWords) output other written = (refl, written)
 told_as_due (Err ReadFault) output other written = (refl, written)
+told_as_due (Err NetFault) output other written = (refl, written)
 told_as_due (Err TooLong) output other written = (refl, written)
 told_as_due (Err (Illegal key verdict)) output other written = (refl, written)
 

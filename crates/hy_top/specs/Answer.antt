@@ -5,6 +5,7 @@ use Rattle.hy_base.specs.Faults.{Rose}
 use Rattle.hy_base.specs.Sink.{SinkUse, AppendsFront}
 use Rattle.hy_base.specs.Source.{SourceUse}
 use Rattle.hy_top.specs.Job.{ComesTo, text_due, status_due}
+use Rattle.hy_top.specs.Serve.{NetUse}
 use Rattle.hy_top.specs.declared.status.Status.{Status}
 use Rattle.hy_top.specs.declared.status.Status.TheVariants.{Done, WriteFault, NoMemory}
 
@@ -29,13 +30,13 @@ IsTold answer output WriteFault = IsBrokenOff answer output
 IsTold answer output NoMemory = IsUnwritten output
 IsTold answer output status = (status_due answer ≡ status) × IsWritten answer output
 
--- the words and the input came to this answer, and its text was written
-abbrev pub Tells : List (List ℕ) → SourceUse → SinkUse → Result (List ℕ) Status → Type 0
-Tells words input output answer = ComesTo words input answer × IsWritten answer output
+-- the words, the input and the net came to this answer, and its text was written
+abbrev pub Tells : List (List ℕ) → SourceUse → NetUse → SinkUse → Result (List ℕ) Status → Type 0
+Tells words input net output answer = ComesTo words input net answer × IsWritten answer output
 
 -- what the status of a call says; want of memory may come at any time
-abbrev pub Answers : List (List ℕ) → SourceUse → SinkUse → Status → Type 0
-Answers words input output Done = (text : List ℕ) × Tells words input output (Ok text)
-Answers words input output WriteFault = (answer : Result (List ℕ) Status) × ComesTo words input answer × IsBrokenOff answer output
-Answers words input output NoMemory = IsUnwritten output
-Answers words input output status = Tells words input output (Err status)
+abbrev pub Answers : List (List ℕ) → SourceUse → NetUse → SinkUse → Status → Type 0
+Answers words input net output Done = (text : List ℕ) × Tells words input net output (Ok text)
+Answers words input net output WriteFault = (answer : Result (List ℕ) Status) × ComesTo words input net answer × IsBrokenOff answer output
+Answers words input net output NoMemory = IsUnwritten output
+Answers words input net output status = Tells words input net output (Err status)

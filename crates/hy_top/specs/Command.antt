@@ -2,7 +2,7 @@
 use Rattle.std.specs.Prelude.{◌≡◌, ℕ, List, Ok}
 use Rattle.hy_words.specs.Words.{command_of}
 use Rattle.hy_words.specs.declared.command.Command.{Command}
-use Rattle.hy_words.specs.declared.command.Command.TheVariants.{OnText}
+use Rattle.hy_words.specs.declared.command.Command.TheVariants.{OnText, Cloud}
 use Rattle.hy_words.specs.declared.command.TextCommand.{TextCommand}
 
 -- the words ask for the command
@@ -16,3 +16,7 @@ IsTextCommand words = (command : TextCommand) × Asks words (OnText command)
 -- the words ask for a command
 abbrev pub IsCommand : List (List ℕ) → Type 0
 IsCommand words = (command : Command) × Asks words command
+
+-- the words ask for a server
+abbrev pub IsServerCommand : List (List ℕ) → Type 0
+IsServerCommand words = (port : ℕ) × (arrivals : ℕ) × Asks words (Cloud port arrivals)

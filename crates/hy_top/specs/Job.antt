@@ -7,9 +7,10 @@ use Rattle.hy_top.specs.Input.{IsWholeInput, IsUnreadable, IsOverlong}
 use Rattle.hy_top.specs.Line.{refusal_line}
 use Rattle.hy_top.specs.Make.{MakesSummary}
 use Rattle.hy_top.specs.Replay.{Replays}
+use Rattle.hy_top.specs.Serve.{NetUse, ServesAt}
 use Rattle.hy_top.specs.Vectors.{GivesVectors}
 use Rattle.hy_words.specs.declared.command.Command.{Command}
-use Rattle.hy_words.specs.declared.command.Command.TheVariants.{OnText, Make, Vectors}
+use Rattle.hy_words.specs.declared.command.Command.TheVariants.{OnText, Make, Vectors, Cloud}
 use Rattle.hy_words.specs.declared.command.TextCommand.{TextCommand}
 use Rattle.hy_words.specs.declared.command.TextCommand.TheVariants.{Replay, Check}
 use Rattle.hy_top.specs.declared.status.Status.{Status}
@@ -33,23 +34,24 @@ DoesOnText command input (Err TooLong) = IsOverlong input
 DoesOnText command input (Err NoMemory) = Unit {0}
 DoesOnText command input answer = ReadsAndMakes command input answer
 
--- what a command answers over an input
-abbrev pub Does : Command → SourceUse → Result (List ℕ) Status → Type 0
-Does (OnText command) input answer = DoesOnText command input answer
-Does (Make seed events) input answer = MakesSummary seed events answer
-Does Vectors input answer = GivesVectors answer
+-- what a command answers over an input and a net
+abbrev pub Does : Command → SourceUse → NetUse → Result (List ℕ) Status → Type 0
+Does (OnText command) input net answer = DoesOnText command input answer
+Does (Make seed events) input net answer = MakesSummary seed events answer
+Does Vectors input net answer = GivesVectors answer
+Does (Cloud port arrivals) input net answer = ServesAt port arrivals net answer
 
 -- the words ask for a command, and it answered this
-pub record IsDone (words : List (List ℕ)) (input : SourceUse) (answer : Result (List ℕ) Status) : Type 0 where
+pub record IsDone (words : List (List ℕ)) (input : SourceUse) (net : NetUse) (answer : Result (List ℕ) Status) : Type 0 where
   pub command : Command
   pub asked : Asks words command
-  pub done : Does command input answer
+  pub done : Does command input net answer
 
--- when the words and the input come to an answer; want of memory may come at any time
-abbrev pub ComesTo : List (List ℕ) → SourceUse → Result (List ℕ) Status → Type 0
-ComesTo words input (Err BadWords) = ¬ IsCommand words
-ComesTo words input (Err NoMemory) = Unit {0}
-ComesTo words input answer = IsDone words input answer
+-- when the words, the input and the net come to an answer; want of memory may come at any time
+abbrev pub ComesTo : List (List ℕ) → SourceUse → NetUse → Result (List ℕ) Status → Type 0
+ComesTo words input net (Err BadWords) = ¬ IsCommand words
+ComesTo words input net (Err NoMemory) = Unit {0}
+ComesTo words input net answer = IsDone words input net answer
 
 -- the text that tells an answer: the output, or the line of the refusal
 abbrev pub text_due : Result (List ℕ) Status → List ℕ

@@ -3,6 +3,7 @@ pub mod Command
 pub mod Input
 pub mod Replay
 pub mod Vectors
+pub mod Serve
 pub mod Line
 pub mod Check
 pub mod Make

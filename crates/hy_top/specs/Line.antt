@@ -5,7 +5,7 @@ use Rattle.hy_base.specs.declared.fault.TextFault.{TextFault}
 use Rattle.hy_text.specs.Cause.{cause_word}
 use Rattle.hy_text.specs.Line.{line_text}
 use Rattle.hy_top.specs.declared.status.Status.{Status}
-use Rattle.hy_top.specs.declared.status.Status.TheVariants.{BadInput, BadWords, ReadFault, TooLong, Illegal}
+use Rattle.hy_top.specs.declared.status.Status.TheVariants.{BadInput, BadWords, ReadFault, NetFault, TooLong, Illegal}
 use Rattle.hy_order.specs.declared.verdict.Verdict.{Verdict}
 use Rattle.hy_order.specs.declared.verdict.Verdict.TheVariants.{Legal, Missing, Stranger, Twice, Early, Wrong}
 
@@ -16,6 +16,10 @@ bad_input_line fault = line_text (codes "bad" ∷ codes "input" ∷ decimal faul
 -- how many orders a report has, all of them legal
 abbrev pub legal_line : ℕ → List ℕ
 legal_line count = line_text (codes "legal" ∷ decimal count ∷ [])
+
+-- how many arrivals a server took
+abbrev pub arrivals_line : ℕ → List ℕ
+arrivals_line count = line_text (codes "arrivals" ∷ decimal count ∷ [])
 
 -- the words that tell a verdict
 abbrev pub verdict_words : Verdict → List (List ℕ)
@@ -34,6 +38,7 @@ illegal_line key verdict = line_text (codes "illegal" ∷ key ∷ verdict_words 
 abbrev pub refusal_line : Status → List ℕ
 refusal_line BadWords = line_text (codes "bad" ∷ codes "words" ∷ [])
 refusal_line ReadFault = line_text (codes "read" ∷ codes "fault" ∷ [])
+refusal_line NetFault = line_text (codes "net" ∷ codes "fault" ∷ [])
 refusal_line TooLong = line_text (codes "too" ∷ codes "long" ∷ [])
 refusal_line (BadInput fault) = bad_input_line fault
 refusal_line (Illegal key verdict) = illegal_line key verdict

@@ -4,8 +4,10 @@ use Rattle.hy_base.specs.declared.fault.TextError.{TextError}
 use Rattle.hy_base.specs.declared.fault.TextError.TheVariants as text
 use Rattle.hy_base.specs.declared.reading.ReadAllFault.{ReadAllFault}
 use Rattle.hy_base.specs.declared.reading.ReadAllFault.TheVariants as reading
+use Rattle.hy_serve.specs.declared.fault.ServeFault.{ServeFault}
+use Rattle.hy_serve.specs.declared.fault.ServeFault.TheVariants as serving
 use Rattle.hy_top.specs.declared.status.Status.{Status}
-use Rattle.hy_top.specs.declared.status.Status.TheVariants.{Done, BadInput, BadWords, ReadFault, WriteFault, NoMemory, TooLong, Illegal}
+use Rattle.hy_top.specs.declared.status.Status.TheVariants.{Done, BadInput, BadWords, ReadFault, WriteFault, NetFault, NoMemory, TooLong, Illegal}
 
 -- the number by which the program tells its status
 abbrev pub exit_code : Status → ℕ
@@ -14,6 +16,7 @@ exit_code (BadInput fault) = 1
 exit_code BadWords = 2
 exit_code ReadFault = 4
 exit_code WriteFault = 5
+exit_code NetFault = 6
 exit_code NoMemory = 7
 exit_code TooLong = 8
 exit_code (Illegal key verdict) = 9
@@ -28,3 +31,8 @@ status_of_reading reading.NoMemory = NoMemory
 abbrev pub status_of_text : TextError → Status
 status_of_text (text.Fault fault) = BadInput fault
 status_of_text text.NoMemory = NoMemory
+
+-- the status where a server ended before its time
+abbrev pub status_of_serving : ServeFault → Status
+status_of_serving serving.NetFault = NetFault
+status_of_serving serving.NoMemory = NoMemory

@@ -3,6 +3,7 @@
 
 mod line;
 mod make_job;
+mod server_job;
 mod status;
 mod text_job;
 mod top;

@@ -3,7 +3,7 @@
 ghost use Rattle.std.specs.Prelude.{◌≡◌, ◌∷◌, [], ◌++◌, IfOk, OnOk};
 ghost use Rattle.std.specs.Fmt.{decimal};
 ghost use Rattle.hy_text.specs.Line.{spaced};
-ghost use Rattle.hy_top.specs.Line.{bad_input_line, legal_line, illegal_line, refusal_line, verdict_words};
+ghost use Rattle.hy_top.specs.Line.{arrivals_line, bad_input_line, legal_line, illegal_line, refusal_line, verdict_words};
 
 use crate::status::Status;
 use hy_base::{Blob, NoMemory, TextFault};
@@ -19,6 +19,7 @@ pub(crate) fn refusal_line(alloc: Global, status: &Status) -> Result<Blob, NoMem
     match status {
         Status::BadWords => Blob::copy_of(alloc, b"bad words\n"),
         Status::ReadFault => Blob::copy_of(alloc, b"read fault\n"),
+        Status::NetFault => Blob::copy_of(alloc, b"net fault\n"),
         Status::TooLong => Blob::copy_of(alloc, b"too long\n"),
         Status::BadInput(fault) => bad_input_line(alloc, *fault),
         Status::Illegal(key, verdict) => illegal_line(alloc, key, *verdict),
@@ -43,6 +44,16 @@ pub(crate) fn legal_line(alloc: Global, count: usize) -> Result<Blob, NoMemory>
 {
     let mut line = Vec::from_slice(alloc, b"legal")?;
     push_number_word(&mut line, count as u64)?;
+    line.push(b'\n')?;
+    Ok(Blob::of(line))
+}
+
+/// The line that tells how many arrivals a server took.
+pub(crate) fn arrivals_line(alloc: Global, count: u32) -> Result<Blob, NoMemory>
+    ensures { IfOk result (λ text. text ≡ arrivals_line count) }
+{
+    let mut line = Vec::from_slice(alloc, b"arrivals")?;
+    push_number_word(&mut line, count.into())?;
     line.push(b'\n')?;
     Ok(Blob::of(line))
 }

@@ -1,12 +1,13 @@
 //! How a run of the program ends.
 
 ghost use Rattle.std.specs.Prelude.{◌≡◌};
-ghost use Rattle.hy_top.specs.Status.{status_of_reading, status_of_text};
+ghost use Rattle.hy_top.specs.Status.{status_of_reading, status_of_serving, status_of_text};
 ghost use Rattle.hy_top.specs.declared.status.Status.TheVariants as statuses;
 
 use hy_base::{NoMemory, ReadAllFault, TextError, TextFault};
 use hy_order::Verdict;
 use hy_record::Key;
+use hy_serve::ServeFault;
 
 /// How a run of the program ends. Each but Done, WriteFault and NoMemory is a refusal: a line tells it.
 #[derive(Clone, Copy, Debug, PartialEq, Eq)]
@@ -21,6 +22,8 @@ pub enum Status {
     ReadFault,
     /// The output could not be written: a front of what was due was.
     WriteFault,
+    /// The net failed: a server could not listen, or could not take an arrival.
+    NetFault,
     /// Memory ran out; nothing was written.
     NoMemory,
     /// The input has more than 16,777,216 bytes.
@@ -42,6 +45,7 @@ impl Status {
             Status::BadWords => 2,
             Status::ReadFault => 4,
             Status::WriteFault => 5,
+            Status::NetFault => 6,
             Status::NoMemory => 7,
             Status::TooLong => 8,
             Status::Illegal(..) => 9,
@@ -76,6 +80,17 @@ impl From<TextError> for Status {
         match error {
             TextError::Fault(fault) => Status::BadInput(fault),
             TextError::NoMemory => Status::NoMemory,
+        }
+    }
+}
+
+impl From<ServeFault> for Status {
+    ghost from_gives = { λ fault status. status ≡ status_of_serving fault };
+
+    fn from(fault: ServeFault) -> Status {
+        match fault {
+            ServeFault::NetFault => Status::NetFault,
+            ServeFault::NoMemory => Status::NoMemory,
         }
     }
 }

@@ -1,5 +1,5 @@
 use super::*;
-use hy_base::{Blob, BytesIn, BytesOut, Cause, TextFault};
+use hy_base::{Blob, BytesIn, BytesOut, Cause, NetTape, TextFault};
 use hy_order::Verdict;
 use hy_record::Key;
 use std::alloc::Global;
@@ -9,7 +9,7 @@ use std::test::Fail;
 mod schedules;
 
 /// A call of the program: the text of its input and how many line feeds stand after it, the
-/// numbers of the read and the write that fail, or 0, and what it is to answer and to write.
+/// numbers of the read, the write and the call of the net that fail, or 0, and what it is to answer and to write.
 #[derive(Drop)]
 struct Row {
     words: &'static [&'static str],
@@ -17,6 +17,7 @@ struct Row {
     line_feeds: usize,
     failing_read: u32,
     failing_write: u32,
+    failing_call: u32,
     status: Status,
     written: &'static str,
 }
@@ -35,7 +36,13 @@ impl Row {
         }
         let mut source = BytesIn::new(Blob::of(text), 7_000, vec![in alloc; self.failing_read]?);
         let mut sink = BytesOut::new(alloc, 4_096, vec![in alloc; self.failing_write]?)?;
-        let status = run(alloc, &words, &mut source, &mut sink);
+        let mut net = NetTape::new(
+            alloc,
+            Vec::new(alloc),
+            16,
+            vec![in alloc; self.failing_call]?,
+        )?;
+        let status = run(alloc, &words, &mut source, &mut sink, &mut net);
         Ok((status, String::from_utf8_lossy(alloc, sink.written())?))
     }
 }
@@ -53,6 +60,7 @@ fn call_of(
         line_feeds: 0,
         failing_read: 0,
         failing_write: 0,
+        failing_call: 0,
         status,
         written,
     }
@@ -269,6 +277,17 @@ fn other_words_are_refused_and_read_nothing(rt: HostRuntime) -> Result<(), Fail>
         assert_eq!(rt; written.as_str(), row.written);
     }
     Ok(())
+}
+
+#[test]
+fn servers_tell_their_arrivals(rt: HostRuntime) -> Result<(), Fail> {
+    let words = &["cloud", "7100", "--arrivals=2"];
+    let mut unheard = call_of(words, "", Status::NetFault, "net fault\n");
+    unheard.failing_call = 1;
+    let mut cut_off = call_of(words, "", Status::NetFault, "net fault\n");
+    cut_off.failing_call = 3;
+    let served = call_of(words, "", Status::Done, "arrivals 2\n");
+    all_answer(&rt, rt.alloc(), &[served, unheard, cut_off])
 }
 
 #[test]

@@ -9,6 +9,8 @@ pub enum Command {
     Make { seed: u64, events: u32 },
     /// The worked values of the formats.
     Vectors,
+    /// The server of a cloud at the port, until so many arrivals were taken.
+    Cloud { port: u16, arrivals: u32 },
 }
 
 /// What a command on a text does with it.

@@ -2,13 +2,14 @@
 #![tactic(auto)]
 
 mod command;
+mod given;
 mod limits;
 mod name;
 mod operands;
 mod reading;
 
 pub use command::{Command, TextCommand};
-pub use limits::{MAX_MADE, MAX_SEED};
+pub use limits::{MAX_MADE, MAX_PORT, MAX_SEED, SERVER_ARRIVALS};
 pub use reading::read_command;
 
 #[cfg(test)]

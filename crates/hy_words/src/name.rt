@@ -11,10 +11,17 @@ pub(crate) enum Name {
     Check,
     Make,
     Vectors,
+    Cloud,
 }
 
 /// The names of all commands.
-pub(crate) const NAMES: [Name; 4] = [Name::Replay, Name::Check, Name::Make, Name::Vectors];
+pub(crate) const NAMES: [Name; 5] = [
+    Name::Replay,
+    Name::Check,
+    Name::Make,
+    Name::Vectors,
+    Name::Cloud,
+];
 
 impl Named for Name {
     ghost word_of = { name_word };
@@ -25,6 +32,7 @@ impl Named for Name {
             Name::Check => b"check",
             Name::Make => b"make",
             Name::Vectors => b"vectors",
+            Name::Cloud => b"cloud",
         }
     }
 }

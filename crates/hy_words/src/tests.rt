@@ -14,6 +14,11 @@ fn words(alloc: Global, line: &str) -> Result<Vec<String>, Fail> {
     Ok(words)
 }
 
+/// A cloud's server.
+fn cloud(port: u16, arrivals: u32) -> Command {
+    Command::Cloud { port, arrivals }
+}
+
 #[test]
 fn words_of_the_table_ask_for_their_commands(rt: HostRuntime) -> Result<(), Fail> {
     let alloc = rt.alloc();
@@ -28,6 +33,13 @@ fn words_of_the_table_ask_for_their_commands(rt: HostRuntime) -> Result<(), Fail
                 seed: MAX_SEED,
                 events: 10_000,
             },
+        ),
+        ("cloud 65535", cloud(65_535, 1_000_000)),
+        ("cloud --arrivals 1 1", cloud(1, 1)),
+        ("cloud --arrivals=9 7100", cloud(7_100, 9)),
+        (
+            "cloud 7100 --arrivals 4294967295",
+            cloud(7_100, 4_294_967_295),
         ),
     ] {
         assert!(rt; read_command(&words(alloc, line)?) == Ok(command), "{line}");
@@ -49,6 +61,19 @@ fn words_outside_the_table_ask_for_nothing(rt: HostRuntime) -> Result<(), Fail> 
         "make 1 10001",
         "make 18446744073709551616 1",
         "make 1 1 1",
+        "make 1 1 --arrivals 1",
+        "cloud",
+        "cloud 0",
+        "cloud 65536",
+        "cloud 07100",
+        "cloud 7100 7101",
+        "cloud 7100 --arrivals",
+        "cloud 7100 --arrivals=",
+        "cloud 7100 --arrivals 0",
+        "cloud 7100 --arrivals 4294967296",
+        "cloud 7100 --arrivals 1 --arrivals 1",
+        "cloud 7100 --arrivals=1 --arrivals=1",
+        "cloud 7100 --patience 1",
     ] {
         assert!(rt; read_command(&words(alloc, line)?).is_err(), "{line}");
     }

@@ -1,7 +1,8 @@
-//! The program: the words of its command line, its standard input and output, and its exit status.
+//! The program: the words of its command line, its standard input and output, the sockets of the loopback, and its exit status.
 #![tactic(auto)]
 
 use hy_base::{NoMemory, ReadSource, WriteSink};
+use hy_tcp::TcpNet;
 use hy_top::Status;
 use std::process::ExitCode;
 use std::rt::Env;
@@ -10,9 +11,11 @@ use std::{env, io};
 fn main(rt: HostRuntime) -> ExitCode {
     let mut input = ReadSource::new(rt.stdin());
     let mut output = WriteSink::new(rt.stdout());
-    let status = match words_of(&rt) {
-        Ok(words) => hy_top::run(rt.alloc(), &words, &mut input, &mut output),
-        Err(NoMemory) => Status::NoMemory,
+    let status = match (words_of(&rt), TcpNet::new(&rt, rt.alloc())) {
+        (Ok(words), Ok(mut net)) => {
+            hy_top::run(rt.alloc(), &words, &mut input, &mut output, &mut net)
+        }
+        _ => Status::NoMemory,
     };
     ExitCode::from(status.code())
 }
