@@ -2,7 +2,12 @@
 
 use super::{all_answer, bad_input, replay_of};
 use crate::Status;
-use hy_base::Cause;
+use hy_base::{Blob, Cause};
+use hy_meta::PlainService;
+use hy_order::write_report;
+use hy_sched::read_schedule;
+use hy_world::replay_over;
+use std::alloc::Global;
 use std::test::Fail;
 
 /// The name of a schedule, its text, and its report.
@@ -128,9 +133,23 @@ const ITS_REPORT: &str = "\
     op 13 3 get a 130 136 value 93fd 1 2\norder a 2 3 4 6 1 5 9 12 13\nheld a 1 2 0,1\n\
     end 13 1\n";
 
+/// The report of the schedule over the plain metadata service.
+fn plain_report(alloc: Global, text: &str) -> Result<Blob, Fail> {
+    let schedule = read_schedule(alloc, text.as_bytes())
+        .ok()
+        .ok_or("a schedule")?;
+    let report = replay_over(alloc, &schedule, PlainService::new(alloc)?)?;
+    Ok(write_report(alloc, &report)?)
+}
+
 #[test]
 fn worked_schedules_have_their_reports(rt: HostRuntime) -> Result<(), Fail> {
     for (name, schedule, report) in WORKED {
+        assert_eq!(rt;
+            plain_report(rt.alloc(), schedule)?.bytes(),
+            report.as_bytes(),
+            "{name}"
+        );
         let (status, written) = replay_of(schedule, Status::Done, report).answer(rt.alloc())?;
         assert_eq!(rt; status, Status::Done, "{name}");
         assert_eq!(rt; written.as_str(), report, "{name}");
