@@ -1,5 +1,5 @@
 -- Lemmas on the runs of connections, and on a piece that is put behind one.
-use Rattle.std.proofs.Common.{◌≡◌, ◌≤◌, ◌<◌, ◌+◌, ◌-◌, ◌==◌, ℕ, suc, Bool, true, false, List, [], ◌∷◌, ◌++◌, length, get_or, set, take, drop, refl, sym, ap, subst, ◌∙◌, append_assoc, add_assoc, zero-add, add-zero, add-one, arith, eq-eqb, cond, take-append-drop, drop-drop, length-append, length-drop, drop-cons}
+use Rattle.std.proofs.Common.{◌≡◌, ◌≤◌, ◌<◌, ◌+◌, ◌-◌, ◌==◌, ℕ, Bool, true, false, List, [], ◌∷◌, ◌++◌, length, get_or, set, take, drop, refl, sym, ap, ◌∙◌, append_assoc, add_assoc, zero-add, add-zero, add-one, arith, eq-eqb, cond, take-append-drop, drop-drop, length-append, length-drop, drop-cons}
 use Rattle.std.proofs.lemmas.List.{length-take-le, take-append-le, drop-append-le, take-take, drop-take, append-nil}
 use Rattle.std.proofs.lemmas.Bool.{cases_Bool, cond-true, cond-false, eqb-true}
 use Rattle.std.proofs.Math.Seq.{take-suc, take-append-add, drop-append-add, take-append_seam, drop-append_seam, set-append_seam, get_or-append_seam}

@@ -1,5 +1,5 @@
 -- Lemmas on a net in memory.
-use Rattle.std.proofs.Common.{◌≡◌, ◌<◌, ◌+◌, ◌==◌, ℕ, not, Bool, true, false, List, [], ◌∷◌, ◌++◌, Option, Some, None, length, refl, sym, ap, subst, ◌∙◌, cond, ◌&&◌, arith}
+use Rattle.std.proofs.Common.{◌≡◌, ◌<◌, ◌==◌, ℕ, not, Bool, true, false, List, [], ◌∷◌, ◌++◌, Some, None, length, refl, sym, ap, subst, ◌∙◌, ◌&&◌, arith}
 use Rattle.std.specs.Prelude.{if◌then◌else◌}
 use Rattle.hy_base.specs.declared.net_call.NetCall.TheVariants.{Send}
 use Rattle.std.proofs.lemmas.Bool.{cond-true, cond-false, cases_Bool}
@@ -11,7 +11,7 @@ use Rattle.hy_base.specs.declared.net_call.NetCall.{NetCall}
 use Rattle.hy_base.specs.declared.net_script.Script.{Script}
 use Rattle.hy_base.specs.declared.net_tape.NetTape.{NetTape}
 use Rattle.hy_base.specs.Moves.{Move, Call, arrived, called, listen, dial, send, close, bytes_sent, sent_by, is_dialled}
-use Rattle.hy_base.specs.Net.{Adds, Calls, Moves}
+use Rattle.hy_base.specs.Net.{Calls, Moves}
 use Rattle.hy_base.specs.Outbox.{Done, bytes_on, has_room}
 use Rattle.hy_base.specs.Script.{Leaves, Gives, rest_of}
 use Rattle.hy_base.specs.NetTape.{TellsTape, IsTold, AddsCall, calls_of, kept}

@@ -7,7 +7,6 @@ pub mod MemorySource
 pub mod MemorySink
 pub mod Moves
 pub mod Net
-pub mod Play
 pub mod Script
 pub mod Pieces
 pub mod Outbox

@@ -1,5 +1,5 @@
 -- What happened over a net, the newest first: what arrived, and each call with its outcome.
-use Rattle.std.specs.Prelude.{◌≤◌, ◌==◌, ℕ, suc, Bool, true, false, List, [], ◌∷◌, ◌++◌, Option, Some, None, take, if◌then◌else◌}
+use Rattle.std.specs.Prelude.{◌≤◌, ◌==◌, ℕ, Bool, true, false, List, [], ◌∷◌, ◌++◌, Option, Some, None, take, if◌then◌else◌}
 use Rattle.hy_base.specs.declared.arrival.Arrival.{Arrival}
 use Rattle.hy_base.specs.declared.arrival.Arrival.TheVariants as got
 use Rattle.hy_base.specs.declared.arrival.Arrived.{Arrived}
@@ -42,12 +42,6 @@ InBuffer room (got.Opened conn) = Unit {0}
 InBuffer room (got.Bytes conn count) = count ≤ room
 InBuffer room (got.Closed conn) = Unit {0}
 InBuffer room got.Quiet = Unit {0}
-
--- how many arrivals were taken
-unfoldable pub arrival_count : List Move → ℕ
-arrival_count [] = 0
-arrival_count (called call ∷ before) = arrival_count before
-arrival_count (arrived a ∷ before) = suc (arrival_count before)
 
 abbrev pub sent_by : ℕ → Call → List ℕ
 sent_by conn (listen port done) = []

@@ -1,5 +1,5 @@
 -- A net in memory: what it stands for, and which of its calls fail.
-use Rattle.std.specs.Prelude.{◌≡◌, ◌<◌, ◌⊎◌, ℕ, Bool, false, List, [], ◌∷◌, ◌++◌, length}
+use Rattle.std.specs.Prelude.{◌≡◌, ◌<◌, ◌⊎◌, ℕ, false, List, [], ◌∷◌, ◌++◌, length}
 use Rattle.hy_base.specs.declared.net_call.NetCall.{NetCall}
 use Rattle.hy_base.specs.declared.net_call.NetCall.TheVariants.{Listen, Dial, Send, Close}
 use Rattle.hy_base.specs.declared.arrival.Arrived.{Arrived}

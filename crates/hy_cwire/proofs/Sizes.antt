@@ -1,5 +1,5 @@
 -- What the head of a request comes to: a body of at most the bytes of a value, or a fault that needs no end of the connection.
-use Rattle.std.proofs.Common.{◌≡◌, ◌≢◌, ℕ, ◌<◌, ◌≤◌, nat_lt, Bool, true, false, List, [], ◌∷◌, Option, Some, None, Result, Ok, Err, sym, subst, arith, map, codes}
+use Rattle.std.proofs.Common.{◌≡◌, ◌≢◌, ℕ, ◌≤◌, nat_lt, Bool, true, false, List, [], ◌∷◌, Option, Some, None, Result, Ok, Err, sym, subst, arith, map, codes}
 use Rattle.httparse.specs.Spans.{name_and_value}
 use Rattle.std.proofs.Math.Logic.{⊎_elim}
 use Rattle.std.proofs.lemmas.Bool.{cases_Bool}
@@ -13,7 +13,7 @@ use Rattle.hy_cwire.specs.declared.fault.HttpFault.TheVariants.{Cut, Coding, Len
 use Rattle.hy_cwire.specs.declared.kind.WishKind.{WishKind}
 use Rattle.hy_cwire.specs.declared.kind.WishKind.TheVariants.{Put, Get, Delete}
 use Rattle.hy_cwire.specs.Lengths.{values_named, unless_coded, size_by, at_most, length_of}
-use Rattle.hy_cwire.specs.Asks.{kind_named, has_body, most_bytes, ask_size, with_size, ask_of, JudgesKind, JudgesAsk, AskComesTo}
+use Rattle.hy_cwire.specs.Asks.{kind_named, has_body, most_bytes, ask_size, with_size, ask_of, JudgesKind, AskComesTo}
 
 -- a fault that is not that of a message cut short
 abbrev pub IsUncut : HttpFault → Type 0

@@ -17,7 +17,8 @@ use Rattle.hy_record.specs.Record.{RecordValue}
 use Rattle.hy_record.specs.Stamp.{stamp_lt}
 use Rattle.hy_meta.specs.declared.watcher.Watcher.{Watcher}
 use Rattle.hy_meta.specs.Service.{record_stamp}
-use Rattle.hy_meta.specs.Watches.{service_answers, fired, fired_watches}
+use Rattle.hy_meta.specs.Meta.{service_answers}
+use Rattle.hy_meta.specs.Watches.{fired, fired_watches}
 use Rattle.hy_meta.proofs.Rising.{cases_bool, both}
 use Rattle.hy_protocol.specs.Operations.{sends_of, replied}
 use Rattle.hy_trace.specs.Deeds.{Params, Deed, Joined, Began, Handed, Served, Granted, Stopped, Nothing, Start, served, inputs_of, start_of, start_at, reply_of}

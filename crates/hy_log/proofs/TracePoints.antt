@@ -353,9 +353,9 @@ module _ (p : Params) (t : List Deed) (trace : IsTrace p t) where
   all-apart (b ∷ ops) began unlike =
       pairs-joined Apart (moments_of p t b) (all_moments p t ops) (own-apart b began.0) (all-apart ops began.1 unlike.1)
       (λ m x own later same. (
-          let of = of-all ops x later in
-          let names = names-same b.client b.op (kind_of m.point) of.0.client of.0.op (kind_of x.point) (sym (own-named b began.0 m own) ∙ (ap (name_at t) same ∙ own-named of.0 (all-of HasBegun ops of.0 began.1 of.1) x of.2)) in
-          all-of (AreUnlike b) ops of.0 unlike.0 of.1 (names.0, names.1)))
+      let of = of-all ops x later in
+      let names = names-same b.client b.op (kind_of m.point) of.0.client of.0.op (kind_of x.point) (sym (own-named b began.0 m own) ∙ (ap (name_at t) same ∙ own-named of.0 (all-of HasBegun ops of.0 began.1 of.1) x of.2)) in
+      all-of (AreUnlike b) ops of.0 unlike.0 of.1 (names.0, names.1)))
 
 -- ---- in the order of their beginnings
 

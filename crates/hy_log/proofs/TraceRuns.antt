@@ -237,9 +237,9 @@ module _ (p : Params) (t : List Deed) (trace : IsTrace p t) where
       let idle = (start-trace p y.b.client y.b.op t y.b.start trace y.began).1 in
       let mine : start_of y.b.client x.b.op y.b.start.before ≡ Some x.b.start = ap (λ (c : ℕ). start_of c x.b.op y.b.start.before) (sym client) ∙ before in
       let settled = idle.settled x.b.op (λ (same : y.b.op ≡ x.b.op). (
-          let one : x.b.start ≡ y.b.start = same_Some x.b.start y.b.start (sym x.began ∙ (ap (λ (c : ℕ). start_of c x.b.op t) client ∙ (ap (λ (o : ℕ). start_of y.b.client o t) (sym same) ∙ y.began))) in
-          let e = ap (λ (s : Start). length s.before) one in
-          omega (arith, e, sooner))) (ap is_some mine) in
+      let one : x.b.start ≡ y.b.start = same_Some x.b.start y.b.start (sym x.began ∙ (ap (λ (c : ℕ). start_of c x.b.op t) client ∙ (ap (λ (o : ℕ). start_of y.b.client o t) (sym same) ∙ y.began))) in
+      let e = ap (λ (s : Start). length s.before) one in
+      omega (arith, e, sooner))) (ap is_some mine) in
       let r = some-return p y.b.client x.b.op y.b.start.before settled in
       let within = returned-within p y.b.client x.b.op y.b.start.before r.0 r.1 in
       let later : return_of p x.b.client x.b.op t ≡ Some r.0 = ap (λ (c : ℕ). return_of p c x.b.op t) client ∙ returns-later p y.b.client y.b.op x.b.op t y.b.start r.0 y.began (r.1) in
@@ -295,10 +295,10 @@ module _ (p : Params) (t : List Deed) (trace : IsTrace p t) where
       well-read run r b began (first_made b.client b.op t) found.0 (first-sent p b.client b.op t trace b.start began found.0 found.1) step (ap (λ (x : Reading). x.found) found.2) (write-key b run w)
       (ap (λ (x : Run). x.begun) w.run_is) (ap (λ (x : Run). x.ended) w.run_is) (λ x returned. first-returned p b.client b.op t x trace returned)
       (λ writing has. (
-          let x = writing-parts (own_stamp (write_plan p.f p.k b.client b.op run.key w.value) (inputs_of b.client b.op t)) (first_update (is_own b.client b.op) t) writing (sym (ap (λ (y : Run). y.set) w.run_is) ∙ has) in
-          let told_ = (told-before p b.client b.op t trace x.0 x.1).sooner in
-          let same = x.3 in
-          omega (arith, step, told_, same)))
+      let x = writing-parts (own_stamp (write_plan p.f p.k b.client b.op run.key w.value) (inputs_of b.client b.op t)) (first_update (is_own b.client b.op) t) writing (sym (ap (λ (y : Run). y.set) w.run_is) ∙ has) in
+      let told_ = (told-before p b.client b.op t trace x.0 x.1).sooner in
+      let same = x.3 in
+      omega (arith, step, told_, same)))
 
   version-reads : (run : Run) (r : Reading) (b : Begun) → start_of b.client b.op t ≡ Some b.start → (w : IsReadRun p t b run) → run.asked ≡ Some r → ReadsWell (top_at t) run r
   version-reads run r b began w is =
@@ -369,8 +369,10 @@ module _ (p : Params) (t : List Deed) (trace : IsTrace p t) where
       by_stamp held has (Some x) next =
           (let own : own_stamp (write_plan p.f p.k b.client b.op run.key w.value) (inputs_of b.client b.op t) ≡ Some x = has-own held has x next in
           let u = updated-before p b.client b.op t trace run.key w.value b.start began w.action_is x own r returned in
-          inl (record { step = u.0.step; stamp = x; is_applied = u.0.is_applied },
-          ap (λ (y : Run). y.set) w.run_is ∙ (ap (λ (s : Option Timestamp). writing_with s (first_update (is_own b.client b.op) t)) own ∙ ap (writing_with (Some x)) u.1)))
+          inl (
+            record { step = u.0.step; stamp = x; is_applied = u.0.is_applied },
+            ap (λ (y : Run). y.set) w.run_is ∙ (ap (λ (s : Option Timestamp). writing_with s (first_update (is_own b.client b.op) t)) own ∙ ap (writing_with (Some x)) u.1),
+          ))
         where
           has-own : (held : Option RecordValue) → first_has (inputs_of b.client b.op t) ≡ Some held → (x : Timestamp) → next_stamp (stamp_of_record held) b.client ≡ Some x → own_stamp (write_plan p.f p.k b.client b.op run.key w.value) (inputs_of b.client b.op t) ≡ Some x
           has-own held has x next = ap (option_and_then (stamp_upon b.client)) has ∙ next
@@ -407,9 +409,10 @@ module _ (p : Params) (t : List Deed) (trace : IsTrace p t) where
           let same : h.start ≡ is.b.start = start-same is.b.client is.b.op t h.start is.b.start h.began is.began in
           let inputs = inputs_of is.b.client is.b.op t in
           let replies : read_reply inputs ≡ Some r.reply = ap (λ (a : Action). replied p.f p.k is.b.client is.b.op a inputs) (sym (ap (λ (s : Start). s.action) same ∙ w.action_is)) ∙ h.replies in
-          let v = answered-version (version_of inputs) r.reply (reply-version p is.b.client is.b.op run.key r.reply t trace (λ s began. ap (λ (x : Start). x.action) (start-same is.b.client is.b.op t s is.b.start began is.began) ∙ w.action_is) replies) in
-          (record { step = version_made is.b.client is.b.op t; found = version_stamp v.0 },
-          ap (λ (x : Run). x.asked) w.run_is ∙ ap (option_map (λ version. record { step = version_made is.b.client is.b.op t; found = version_stamp version })) v.1)
+          let v = answered-version (version_of inputs) r.reply (reply-version p is.b.client is.b.op run.key r.reply t trace (λ s began. ap (λ (x : Start). x.action) (start-same is.b.client is.b.op t s is.b.start began is.began) ∙ w.action_is) replies) in (
+            record { step = version_made is.b.client is.b.op t; found = version_stamp v.0 },
+            ap (λ (x : Run). x.asked) w.run_is ∙ ap (option_map (λ version. record { step = version_made is.b.client is.b.op t; found = version_stamp version })) v.1,
+          )
 
   -- the first update of a write, as it was served
   applied-update : (run : Run) (w : Writing) → (is : IsRun p t run) → run.set ≡ Some w → w.is_applied ≡ true → top_at t run.key w.step ≡ w.stamp

@@ -135,9 +135,9 @@ const ITS_REPORT: &str = "\
 
 /// The report of the schedule over the plain metadata service.
 fn plain_report(alloc: Global, text: &str) -> Result<Blob, Fail> {
-    let schedule = read_schedule(alloc, text.as_bytes())
-        .ok()
-        .ok_or("a schedule")?;
+    let Ok(schedule) = read_schedule(alloc, text.as_bytes()) else {
+        return Err("a schedule".into());
+    };
     let report = replay_over(alloc, &schedule, PlainService::new(alloc)?)?;
     Ok(write_report(alloc, &report)?)
 }

@@ -1,4 +1,4 @@
-use Rattle.std.proofs.Common.{◌≡◌, Bool, true, false, not, ap, refl, sym, ◌∙◌}
+use Rattle.std.proofs.Common.{Bool, true, false, not, ap, refl}
 use Rattle.hy_base.specs.declared.net_call.NetCall.TheVariants as calls
 use Rattle.hy_base.specs.Moves.{listen, is_dialled}
 use Rattle.hy_base.proofs.Taping.{tape-called, call-kept, none-dialled}

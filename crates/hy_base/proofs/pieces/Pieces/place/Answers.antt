@@ -1,4 +1,4 @@
-use Rattle.std.proofs.Common.{◌≡◌, ◌+◌, ℕ, List, [], ◌∷◌, length, sym, ap, ◌∙◌, refl, arith}
+use Rattle.std.proofs.Common.{List, [], ◌∷◌, ap, ◌∙◌, refl, arith}
 use Rattle.hy_base.specs.declared.pieces.Run.{Run}
 use Rattle.hy_base.specs.Pieces.{total, bytes_in}
 use Rattle.hy_base.proofs.Runs.{total-append, bytes_in-push}
