@@ -29,7 +29,7 @@ pub use blob::Blob;
 pub use failure::{Failed, NoMemory};
 pub use fault::{Cause, TextError, TextFault};
 pub use limits::{
-    MAX_CLOUDS, MAX_COUNT, MAX_EVENTS, MAX_F, MAX_INPUT, MAX_K, MAX_KEY, MAX_LINE, MAX_N,
+    MAX_CLOUDS, MAX_COUNT, MAX_EVENTS, MAX_F, MAX_INPUT, MAX_K, MAX_KEY, MAX_LINE, MAX_MADE, MAX_N,
     MAX_RECORD, MAX_SESSIONS, MAX_SN, MAX_TEXT_VALUE, MAX_VALUE, SN_END,
 };
 pub use memory_sink::BytesOut;

@@ -30,6 +30,9 @@ pub const MAX_INPUT: u64 = 16_777_216;
 /// The most event lines of a schedule.
 pub const MAX_EVENTS: u32 = 16_384;
 
+/// The most events that a seed makes.
+pub const MAX_MADE: u32 = 10_000;
+
 /// The most bytes of a value in a schedule or a report.
 pub const MAX_TEXT_VALUE: usize = 4_096;
 

@@ -5,7 +5,7 @@ mod drawer;
 mod making;
 mod summary;
 
-pub use making::{MAX_MADE, summary_of, summary_over};
+pub use making::{summary_of, summary_over};
 pub use summary::{Summary, summary_line};
 
 #[cfg(test)]

@@ -1,6 +1,7 @@
 //! The run of a schedule that is made of a seed while the store takes its events.
 
 ghost use Rattle.std.specs.Prelude.{◌≡◌, ◌≤◌, [], IfOk, length, count_by};
+ghost use Rattle.hy_base.specs.declared.limits.TheConstants.{MAX_MADE};
 ghost use Rattle.hy_order.specs.declared.operation.Operation.{Operation};
 ghost use Rattle.hy_order.specs.Linearization.{IsReportLinearizable};
 ghost use Rattle.hy_trace.specs.Hashed.{IsCollisionFree};
@@ -17,15 +18,12 @@ ghost use Rattle.hy_make.specs.Making.{
 
 use crate::drawer::Drawer;
 use crate::summary::Summary;
-use hy_base::NoMemory;
+use hy_base::{MAX_MADE, NoMemory};
 use hy_meta::{Meta, Service};
 use hy_order::{End, History, Report, check};
 use hy_sched::{Event, Params};
 use hy_world::WorldOver;
 use std::alloc::Global;
-
-/// The most events that are drawn.
-pub const MAX_MADE: u32 = 10_000;
 
 /// The store: it bears one faulty cloud, keeps values whole, and cloud 0 is Byzantine.
 const STORE: Params = Params {

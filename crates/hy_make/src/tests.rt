@@ -1,7 +1,7 @@
 //! Lines that another program computed.
 
 ghost use Rattle.std.specs.Prelude.{◌≤◌};
-ghost use Rattle.hy_make.specs.declared.making.TheConstants.{MAX_MADE};
+ghost use Rattle.hy_base.specs.declared.limits.TheConstants.{MAX_MADE};
 
 use super::*;
 use std::alloc::Global;

@@ -1,7 +1,7 @@
 //! What came of a schedule that is made.
 
 ghost use Rattle.std.specs.Prelude.{◌≤◌};
-ghost use Rattle.hy_make.specs.declared.making.TheConstants.{MAX_MADE};
+ghost use Rattle.hy_base.specs.declared.limits.TheConstants.{MAX_MADE};
 ghost use Rattle.hy_top.specs.Make.{MakesSummary};
 
 use crate::status::Status;

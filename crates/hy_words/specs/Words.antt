@@ -9,7 +9,8 @@ use Rattle.hy_words.specs.Given.{given_of}
 use Rattle.hy_words.specs.declared.command.Command.{Command}
 use Rattle.hy_words.specs.declared.command.Command.TheVariants.{OnText, Make, Vectors, Cloud}
 use Rattle.hy_words.specs.declared.command.TextCommand.TheVariants as texts
-use Rattle.hy_words.specs.declared.limits.TheConstants.{MAX_MADE, MAX_PORT, MAX_SEED, SERVER_ARRIVALS}
+use Rattle.hy_base.specs.declared.limits.TheConstants.{MAX_MADE}
+use Rattle.hy_words.specs.declared.limits.TheConstants.{MAX_PORT, MAX_SEED, SERVER_ARRIVALS}
 use Rattle.hy_words.specs.declared.name.Name.{Name}
 use Rattle.hy_words.specs.declared.name.Name.TheVariants as names
 

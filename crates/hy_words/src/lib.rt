@@ -9,7 +9,7 @@ mod operands;
 mod reading;
 
 pub use command::{Command, TextCommand};
-pub use limits::{MAX_MADE, MAX_PORT, MAX_SEED, SERVER_ARRIVALS};
+pub use limits::{MAX_PORT, MAX_SEED, SERVER_ARRIVALS};
 pub use reading::read_command;
 
 #[cfg(test)]

@@ -6,8 +6,5 @@ pub const MAX_PORT: u16 = 65_535;
 /// The last seed.
 pub const MAX_SEED: u64 = 18_446_744_073_709_551_615;
 
-/// The most events that are made.
-pub const MAX_MADE: u32 = 10_000;
-
 /// How many arrivals a server takes.
 pub const SERVER_ARRIVALS: u32 = 1_000_000;

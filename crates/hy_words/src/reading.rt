@@ -5,10 +5,10 @@ ghost use Rattle.hy_words.specs.Words.{IsInRange, alone, cloud_of, command_by, c
 
 use crate::command::{Command, TextCommand};
 use crate::given::given_of;
-use crate::limits::{MAX_MADE, MAX_PORT, MAX_SEED, SERVER_ARRIVALS};
+use crate::limits::{MAX_PORT, MAX_SEED, SERVER_ARRIVALS};
 use crate::name::{NAMES, Name};
 use crate::operands::{Operands, first_word};
-use hy_base::Cause;
+use hy_base::{Cause, MAX_MADE};
 use hy_text::{read_named, read_number, read_u32};
 
 /// The command that the words ask for.
