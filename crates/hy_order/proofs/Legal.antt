@@ -24,11 +24,11 @@ cond_none_from : {X : Type 0} (b : Bool) (x : X) (rest : Option X) → b ≡ fal
 cond_none_from b x rest fails none = cond-false b (Some x) rest fails ∙ none
 
 -- nothing is found exactly where each element fails the test
-find_none : {X : Type 0} (p : X → Bool) (xs : List X) → find p xs ≡ None → AllByRecursion (λ x. p x ≡ false) xs
+pub find_none : {X : Type 0} (p : X → Bool) (xs : List X) → find p xs ≡ None → AllByRecursion (λ x. p x ≡ false) xs
 find_none p [] none = tt
 find_none p (x ∷ xs) none = let parts = cond_none (p x) x (find p xs) none in (parts.0, find_none p xs parts.1)
 
-find_none_from : {X : Type 0} (p : X → Bool) (xs : List X) → AllByRecursion (λ x. p x ≡ false) xs → find p xs ≡ None
+pub find_none_from : {X : Type 0} (p : X → Bool) (xs : List X) → AllByRecursion (λ x. p x ≡ false) xs → find p xs ≡ None
 find_none_from p [] all = refl
 find_none_from p (x ∷ xs) all = cond_none_from (p x) x (find p xs) all.0 (find_none_from p xs all.1)
 

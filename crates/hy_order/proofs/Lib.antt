@@ -16,3 +16,5 @@ mod Marking
 mod Grouping
 mod Listed
 mod Verdicts
+mod PlainOrders
+mod Passing

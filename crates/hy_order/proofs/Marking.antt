@@ -111,7 +111,7 @@ module _ (numbers : List ℕ) (place : ℕ) (within : place < length numbers) wh
   abbrev number : ℕ
   number = get_or numbers place 0
 
-  listed-next : (other : ℕ) → is_listed (take (place + 1) numbers) other ≡ (is_listed (take place numbers) other || (number == other))
+  pub listed-next : (other : ℕ) → is_listed (take (place + 1) numbers) other ≡ (is_listed (take place numbers) other || (number == other))
   listed-next other =
       ap (λ numbers. is_listed numbers other) (take_more numbers place 0 within)
       ∙ list_any-append (λ listed. listed == other) (take place numbers) (number ∷ [])

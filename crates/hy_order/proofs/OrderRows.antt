@@ -20,7 +20,7 @@ use Rattle.hy_text.specs.Kind.{is_next_due, items_from}
 use Rattle.hy_text.specs.OpenLine.{OpenLine, Rest}
 use Rattle.hy_order.specs.Report.{order_row}
 use Rattle.hy_order.specs.ReportRanges.{IsTextNumber}
-use Rattle.hy_order.specs.ReportReading.{order_of_words, order_due, order_lines, is_key_due}
+use Rattle.hy_order.specs.ReportReading.{order_of_words, order_lines, is_key_due}
 use Rattle.hy_order.specs.WordReaders.{due_key, numbers_of}
 use Rattle.hy_text.proofs.ItemRows.{Takes, ReadsAgain, AreLinesOf, FitAlong, state_after, items_take}
 

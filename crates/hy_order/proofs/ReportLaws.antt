@@ -1,5 +1,5 @@
 -- The two laws of the text of a report: what is read is spelled so, and what is spelled so is read.
-use Rattle.std.proofs.Common.{◌≡◌, ℕ, suc, ◌+◌, ◌-◌, ◌^◌, ◌<◌, ◌≤◌, Bool, true, false, cond, ◌&&◌, eqb, IsTrue, List, [], ◌∷◌, ◌++◌, length, map, Option, Some, None, Result, Ok, Err, refl, sym, ap, subst, ◌∙◌, arith, length-append, append-nil}
+use Rattle.std.proofs.Common.{◌≡◌, ℕ, suc, ◌+◌, ◌-◌, ◌^◌, ◌<◌, ◌≤◌, true, false, IsTrue, List, [], ◌∷◌, ◌++◌, length, map, Option, Some, None, Result, Ok, Err, refl, sym, ap, subst, ◌∙◌, arith, length-append, append-nil}
 use Rattle.std.specs.Prelude.{codes, IfOk}
 use Rattle.std.specs.List.{AllByRecursion, list_all}
 use Rattle.std.specs.Fmt.{decimal}
@@ -20,22 +20,18 @@ use Rattle.hy_record.specs.declared.action.Action.{Action}
 use Rattle.hy_record.specs.declared.action.Action.TheVariants as asked
 use Rattle.hy_record.specs.declared.action.Reply.{Reply}
 use Rattle.hy_record.specs.declared.action.Reply.TheVariants as told
-use Rattle.hy_record.specs.declared.action.Phase.{Phase}
-use Rattle.hy_record.specs.declared.action.Phase.TheVariants as phase
 use Rattle.hy_text.specs.Gives.{GivesText, at_line, next_number}
-use Rattle.hy_text.specs.Line.{Line, ended_line, text_of, lines_of, lines_of_pieces, words_of, pieces_at, first_word, later_words, is_word, is_row}
+use Rattle.hy_text.specs.Line.{Line, lines_of, first_word, later_words, is_word, is_row}
 use Rattle.hy_base.specs.Results.{◌>>=◌}
 use Rattle.hy_text.specs.Slot.{keyword, number_of, end_of}
 use Rattle.hy_text.proofs.Numbers.{number_again}
-use Rattle.hy_text.proofs.Pieces.{pieces_at-some}
 use Rattle.hy_text.proofs.Printed.{is_word-decimal, is_word-key, is_word-value_word}
-use Rattle.hy_text.proofs.Rows.{lines_of-text_of, text_of-lines_of}
+use Rattle.hy_text.proofs.Rows.{lines_of-text_of}
 use Rattle.hy_base.proofs.Results.{bind_ok, ok_is}
 use Rattle.hy_text.proofs.Slots.{keyword_takes, end_takes, at_line_ok}
 use Rattle.hy_base.specs.declared.limits.TheConstants.{MAX_COUNT, MAX_N}
 use Rattle.hy_text.specs.Action.{IsTextAction}
 use Rattle.hy_text.specs.Clouds.{cloud_word}
-use Rattle.hy_text.specs.Phase.{phase_word}
 use Rattle.hy_text.specs.Stamp.{stamp_words}
 use Rattle.hy_order.specs.declared.held.Held.{Held}
 use Rattle.hy_order.specs.declared.operation.End.{End}

@@ -8,3 +8,5 @@ pub mod Index
 pub mod WordReaders
 pub mod ReportRanges
 pub mod ReportReading
+pub mod Plain
+pub mod Due

@@ -4,7 +4,7 @@ use Rattle.std.specs.Cmp.Lexicographic.{slice_cmp}
 use Rattle.std.specs.Ordering.{nat_cmp, is_lt}
 use Rattle.std.specs.Str.{bytes_eq}
 use Rattle.hy_base.specs.declared.fault.Cause.{Cause}
-use Rattle.hy_base.specs.declared.fault.Cause.TheVariants.{BadWord, BadNumber, BadKey}
+use Rattle.hy_base.specs.declared.fault.Cause.TheVariants.{BadWord, BadKey}
 use Rattle.hy_base.specs.declared.limits.TheConstants.{MAX_COUNT, MAX_N, MAX_TEXT_VALUE}
 use Rattle.hy_record.specs.Stamp.{Timestamp}
 use Rattle.hy_record.specs.declared.action.Action.{Action}

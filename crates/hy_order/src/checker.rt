@@ -4,6 +4,7 @@ mod checking;
 mod index;
 mod listing;
 mod marks;
+mod plain;
 mod real_time;
 mod register;
 

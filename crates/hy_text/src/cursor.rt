@@ -90,6 +90,7 @@ impl<'a> Cursor<'a> {
     }
 
     /// Takes the next line.
+    #[inline(always)]
     pub fn take(&mut self) -> Option<OpenLine<'a>>
         ensures { MatchOption result ((self.old.lines ≡ []) × (self.new ≡ self.old))
             (λ line. IsNextLine self.old line self.new) }
@@ -105,6 +106,7 @@ impl<'a> OpenLine<'a> {
     ghost use Rattle.hy_text.specs.OpenLine.{lines_left, opened};
 
     /// The first of the lines, which has this number, and takes it out of them.
+    #[inline(always)]
     fn first_of(lines: &mut Lines<'a>, number: u32) -> Option<OpenLine<'a>>
         ensures lines { lines_left result lines.new ≡ map opened lines.old }
         ensures number { IfSome result (λ line. line.number ≡ number) }

@@ -21,6 +21,7 @@ impl<'a> Line<'a> {
     ghost use Rattle.hy_text.specs.Seen.{line_seen};
 
     /// The first line of the text and what stands after it, where the text has a line.
+    #[inline(always)]
     fn first_of(text: &'a [u8]) -> Option<(Line<'a>, &'a [u8])>
         ensures { MatchOption result (lines_of text.now ≡ [])
             (λ split. lines_of text.now ≡ line_seen split.0 ∷ lines_of split.1.now) }
@@ -79,6 +80,7 @@ impl<'a> Iterator for Lines<'a> {
 
     ghost remaining = { item_count (λ lines. lines) };
 
+    #[inline(always)]
     fn next(&mut self) -> Option<Line<'a>> {
         let (line, rest) = Line::first_of(self.rest)?;
         self.rest = rest;

@@ -29,17 +29,27 @@ impl<'a> Model for Words<'a> {
 const MANY_BYTES: usize = 64;
 
 /// Where the first separator stands.
+#[inline(always)]
 fn separator_place(separator: u8, bytes: &[u8]) -> Option<usize>
     ensures { result ≡ position (λ b. b == separator) bytes.now }
 {
     if bytes.len() < MANY_BYTES {
         bytes.iter().position(|byte| *byte == separator)
     } else {
-        memchr(separator, bytes)
+        far_place(separator, bytes)
     }
 }
 
+/// Where the first separator stands, searched many bytes at once.
+#[inline(never)]
+fn far_place(separator: u8, bytes: &[u8]) -> Option<usize>
+    ensures { result ≡ position (λ b. b == separator) bytes.now }
+{
+    memchr(separator, bytes)
+}
+
 /// The bytes before the first separator and those after it, or nothing where none stands in the bytes.
+#[inline(always)]
 pub(crate) fn cut_at(separator: u8, bytes: &[u8]) -> Option<(&[u8], &[u8])>
     ensures { MatchOption result (pieces_at separator bytes.now ≡ bytes.now ∷ [])
         (λ parts. pieces_at separator bytes.now ≡ parts.0.now ∷ pieces_at separator parts.1.now) }
@@ -62,6 +72,7 @@ impl<'a> Words<'a> {
     }
 
     /// Takes the next word: the empty one where no word is left.
+    #[inline(always)]
     pub fn next_word(&mut self) -> &'a [u8]
         ensures word { result.now ≡ first_word self.old }
         ensures rest { self.new ≡ later_words self.old }

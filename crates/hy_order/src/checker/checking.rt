@@ -10,6 +10,7 @@ ghost use Rattle.hy_order.specs.Violation.{first_violation, first_illegal};
 use crate::checker::index::OperationIndex;
 use crate::checker::listing::{first_missing, first_stranger, operations_of};
 use crate::checker::marks::mark_listed;
+use crate::checker::plain::are_plain;
 use crate::checker::real_time::first_early;
 use crate::checker::register::first_wrong;
 use crate::history::History;
@@ -40,9 +41,26 @@ pub fn first_illegal(alloc: Global, report: &Report) -> Result<Option<(Key, Verd
     // In a report that can be read, each key of an operation has an order.
     ensures linearizable { IsReport report.now → IfOk result (λ found. (found ≡ None) ↔ IsReportLinearizable report.now) }
 {
-    let index = OperationIndex::of(alloc, &report.history)?;
+    let orders = report.orders.items();
+    let plain = are_plain(alloc, &report.history, orders)?;
+    if plain {
+        return Ok(None);
+    }
+    search_illegal(alloc, &report.history, orders)
+}
+
+/// The key of the first of these orders that is not legal, and the verdict on it, by an index of the
+/// operations by key.
+fn search_illegal(
+    alloc: Global,
+    history: &History,
+    orders: &[Order],
+) -> Result<Option<(Key, Verdict)>, NoMemory>
+    ensures { IfOk result (λ found. found ≡ first_illegal history.now orders.now) }
+{
+    let index = OperationIndex::of(alloc, history)?;
     let mut marks = no_marks(alloc, &index)?;
-    first_illegal_among(alloc, &index, &mut marks, report.orders.items())
+    first_illegal_among(alloc, &index, &mut marks, orders)
 }
 
 /// Marks for the operations of the index, where no order has marked any.

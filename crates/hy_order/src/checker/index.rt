@@ -53,13 +53,12 @@ impl<'a> OperationIndex<'a> {
         self.ops.len()
     }
 
-    /// The operation of the number.
-    pub(crate) fn operation(&self, number: u32) -> Option<&'a Operation>
-        ensures { option_copied result ≡ operation_at self.now number }
+    /// The operations, in the order of the history.
+    pub(crate) fn operations(&self) -> &'a [Operation]
+        ensures value { result.now ≡ self.now }
+        ensures numbered { IsNumberedFrom 1 self.now }
     {
-        let ops = self.ops;
-        let place = number.checked_sub(1)?;
-        ops.get(place as usize)
+        self.ops
     }
 
     /// The operations of the key, in the order of the history; nothing where it has none.
@@ -69,6 +68,15 @@ impl<'a> OperationIndex<'a> {
     {
         self.by_key.get(key)
     }
+}
+
+/// The operation of the number.
+pub(crate) fn operation_of(ops: &[Operation], number: u32) -> Option<&Operation>
+    requires { IsNumberedFrom 1 ops.now }
+    ensures { option_copied result ≡ operation_at ops.now number }
+{
+    let place = number.checked_sub(1)?;
+    ops.get(place as usize)
 }
 
 /// The operations under their keys, those of a key in the order of the list.

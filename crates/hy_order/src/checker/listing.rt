@@ -1,11 +1,12 @@
 //! Whether an order lists each operation that it has to list, and no other, once.
 
 ghost use Rattle.std.specs.Prelude.{◌≡◌, ℕ, List, IfOk, map};
+ghost use Rattle.hy_order.specs.History.{IsNumberedFrom};
 ghost use Rattle.hy_order.specs.Linearization.{listed, operation_at};
 ghost use Rattle.hy_order.specs.Checking.{AreMarked, AreMarksOf, is_marked, unlisted_number};
 ghost use Rattle.hy_order.specs.Violation.{is_member, missing_number, stranger_number};
 
-use crate::checker::index::OperationIndex;
+use crate::checker::index::{OperationIndex, operation_of};
 use crate::checker::marks::is_marked;
 use crate::membership::{is_finished, is_of_key, may_be_listed};
 use crate::operation::Operation;
@@ -44,17 +45,26 @@ fn first_unmarked(ops: &[&Operation], marks: &[usize], order: usize) -> Option<u
 pub(crate) fn first_stranger(index: &OperationIndex, key: &Key, numbers: &[u32]) -> Option<u32>
     ensures { result ≡ stranger_number index.now key.now numbers.now }
 {
+    first_stranger_among(index.operations(), key, numbers)
+}
+
+/// The same of these operations.
+pub(crate) fn first_stranger_among(ops: &[Operation], key: &Key, numbers: &[u32]) -> Option<u32>
+    requires { IsNumberedFrom 1 ops.now }
+    ensures { result ≡ stranger_number ops.now key.now numbers.now }
+{
     numbers
         .iter()
         .copied()
-        .find(|number| !is_member(index, key, *number))
+        .find(|number| !is_member(ops, key, *number))
 }
 
 /// Whether an order of the key may list the number.
-fn is_member(index: &OperationIndex, key: &Key, number: u32) -> bool
-    ensures { result ≡ is_member key.now (operation_at index.now number) }
+fn is_member(ops: &[Operation], key: &Key, number: u32) -> bool
+    requires { IsNumberedFrom 1 ops.now }
+    ensures { result ≡ is_member key.now (operation_at ops.now number) }
 {
-    match index.operation(number) {
+    match operation_of(ops, number) {
         Some(op) => is_of_key(op, key) && may_be_listed(op),
         None => false,
     }
@@ -68,9 +78,21 @@ pub(crate) fn operations_of<'a>(
 ) -> Result<Vec<&'a Operation>, NoMemory>
     ensures { IfOk result (λ found. map (λ op. op.now) found.items ≡ listed index.now numbers.now) }
 {
+    operations_among(alloc, index.operations(), numbers)
+}
+
+/// The same of these operations.
+pub(crate) fn operations_among<'a>(
+    alloc: Global,
+    ops: &'a [Operation],
+    numbers: &[u32],
+) -> Result<Vec<&'a Operation>, NoMemory>
+    requires { IsNumberedFrom 1 ops.now }
+    ensures { IfOk result (λ found. map (λ op. op.now) found.items ≡ listed ops.now numbers.now) }
+{
     let mut found = Vec::new(alloc);
     for number in numbers {
-        if let Some(op) = index.operation(*number) {
+        if let Some(op) = operation_of(ops, *number) {
             found.push(op)?;
         }
     }

@@ -37,7 +37,7 @@ pub(crate) fn is_marked(marks: &[usize], order: usize, number: u32) -> bool
 }
 
 /// Marks the operation of the number, where there is one.
-fn mark(marks: &mut [usize], order: usize, number: u32)
+pub(crate) fn mark(marks: &mut [usize], order: usize, number: u32)
     ensures marked { (other : ℕ) → IsPlace (length marks.old) other →
         is_marked marks.new order other ≡ (is_marked marks.old order other || number == other) }
     ensures below { AreBelow (order + 1) marks.old → AreBelow (order + 1) marks.new }

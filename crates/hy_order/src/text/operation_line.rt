@@ -108,6 +108,7 @@ fn read_operation(
 
 /// The end of an operation with this action that was invoked at this step.
 #[tactic(auto, unfolding(crate::specs::WordReaders::end_from))]
+#[inline(always)]
 fn read_end(
     alloc: Global,
     action: &Action,
@@ -126,6 +127,7 @@ fn read_end(
 
 /// The end of an operation with a reply, of the word that tells when and the words after it.
 #[tactic(auto, unfolding(crate::specs::WordReaders::replied_from))]
+#[inline(always)]
 fn read_replied(
     alloc: Global,
     action: &Action,
@@ -181,6 +183,7 @@ fn has_phase(action: &Action, phase: Phase) -> bool
 }
 
 /// The reply of an operation with this action.
+#[inline(always)]
 fn read_reply(alloc: Global, action: &Action, words: &mut Words) -> Result<Reply, LineError>
     ensures { Takes result words.new (reply_from action.now words.old) }
 {
@@ -193,6 +196,7 @@ fn read_reply(alloc: Global, action: &Action, words: &mut Words) -> Result<Reply
 
 /// The reply of a put or a delete.
 #[tactic(auto, unfolding(crate::specs::WordReaders::write_reply_from))]
+#[inline(always)]
 fn read_write_reply(words: &mut Words) -> Result<Reply, Cause>
     ensures { TakesExactly result words.new (write_reply_from words.old) }
 {
@@ -210,6 +214,7 @@ fn read_write_reply(words: &mut Words) -> Result<Reply, Cause>
 
 /// The reply of a get.
 #[tactic(auto, unfolding(crate::specs::WordReaders::get_reply_from))]
+#[inline(always)]
 fn read_get_reply(alloc: Global, words: &mut Words) -> Result<Reply, LineError>
     ensures { Takes result words.new (get_reply_from words.old) }
 {
@@ -226,6 +231,7 @@ fn read_get_reply(alloc: Global, words: &mut Words) -> Result<Reply, LineError>
 
 /// The value that a get was told, of the words after the keyword.
 #[tactic(auto, unfolding(crate::specs::WordReaders::value_from))]
+#[inline(always)]
 fn read_value_reply(alloc: Global, words: &mut Words) -> Result<Reply, LineError>
     ensures { Takes result words.new (value_from words.old) }
 {

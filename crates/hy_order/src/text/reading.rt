@@ -1,10 +1,14 @@
 //! Reading a report, line by line.
 
-ghost use Rattle.std.specs.Prelude.{◌≡◌, IfOk};
+ghost use Rattle.std.specs.Prelude.{◌≡◌, ◌+◌, ◌<◌, IfOk, OnOk, length, take, true};
+ghost use Rattle.std.specs.List.{list_any};
+ghost use Rattle.std.specs.Option.{option_copied};
+ghost use Rattle.std.specs.Str.{bytes_eq};
 ghost use Rattle.hy_base.specs.declared.fault.TextError.TheVariants as errors;
 ghost use Rattle.hy_base.specs.declared.fault.TextFault.{TextFault};
 ghost use Rattle.hy_text.specs.Gives.{GivesText};
 ghost use Rattle.hy_text.specs.Kind.{TakesLines, items_from};
+ghost use Rattle.hy_order.specs.Due.{is_key, names_key};
 ghost use Rattle.hy_order.specs.Keys.{sorted_keys};
 ghost use Rattle.hy_order.specs.Report.{report_text};
 ghost use Rattle.hy_order.specs.ReportRanges.{IsReport, register_key, register_keys};
@@ -89,24 +93,93 @@ fn keys_due(alloc: Global, ops: &[Operation]) -> Result<Vec<Key>, NoMemory>
     ensures { IfOk result (λ keys. keys.items ≡ sorted_keys (register_keys ops.now)) }
 {
     let mut keys = BTreeSet::new(alloc);
-    for op in ops {
-        if let Some(key) = register_key(&op.action) {
-            keys.insert(key)?;
-        }
+    let mut places = vec![in alloc; 0usize; SLOTS]?;
+    for place in 0..ops.len() {
+        add_key(&mut keys, &mut places, ops, place)?;
     }
     let mut due = Vec::new(alloc);
-    for key in keys {
-        due.push(key)?;
+    for key in keys.iter() {
+        due.push(*key)?;
     }
     Ok(due)
 }
 
+/// Adds the key that the operation at the place names, where it puts, gets or deletes one.
+///
+/// Most operations name a key that one shortly before them named too, which needs no search among
+/// the keys: each slot keeps the place of the last operation whose key falls to it.
+fn add_key(
+    keys: &mut BTreeSet<Key>,
+    places: &mut [usize],
+    ops: &[Operation],
+    place: usize,
+) -> Result<(), NoMemory>
+    requires within { place < length ops.now }
+    requires earlier { keys.old.keys ≡ sorted_keys (register_keys (take place ops.now)) }
+    ensures { OnOk result (keys.new.keys ≡ sorted_keys (register_keys (take (place + 1) ops.now))) }
+{
+    let op = &ops[place];
+    let Some(key) = register_key(&op.action) else {
+        return Ok(());
+    };
+    if is_named_before(&ops[..place], places, key) {
+        return Ok(());
+    }
+    keys.insert(*key)?;
+    Ok(())
+}
+
+/// How many slots there are for the places of operations.
+const SLOTS: usize = 1024;
+
+/// Whether the operation at the place in the slot of the key is one of these and names the key. The
+/// slot then keeps the place after them.
+fn is_named_before(ops: &[Operation], places: &mut [usize], key: &Key) -> bool
+    ensures { result ≡ true → list_any (λ other. bytes_eq other key.now) (register_keys ops.now) ≡ true }
+{
+    let Some(last) = places.get_mut(slot_of(key)) else {
+        return false;
+    };
+    let named = names_key(ops.get(*last), key);
+    *last = ops.len();
+    named
+}
+
+/// A slot for the key.
+fn slot_of(key: &Key) -> usize {
+    let mut slot: usize = 0;
+    for byte in key.bytes() {
+        slot = slot.wrapping_mul(31).wrapping_add(usize::from(*byte));
+    }
+    slot % SLOTS
+}
+
+/// Whether there is an operation, and it puts, gets or deletes the key.
+fn names_key(op: Option<&Operation>, key: &Key) -> bool
+    ensures { result ≡ names_key key.now (option_copied op.entry) }
+{
+    match op {
+        Some(op) => is_key(register_key(&op.action), key),
+        None => false,
+    }
+}
+
+/// Whether it is the key.
+fn is_key(found: Option<&Key>, key: &Key) -> bool
+    ensures { result ≡ is_key key.now (option_copied found.entry) }
+{
+    match found {
+        Some(other) => other == key,
+        None => false,
+    }
+}
+
 /// The key of a put, a get or a delete.
-fn register_key(action: &Action) -> Option<Key>
-    ensures { result ≡ register_key action.now }
+fn register_key(action: &Action) -> Option<&Key>
+    ensures { option_copied result ≡ register_key action.now }
 {
     match action {
-        Action::Put { key, .. } | Action::Get { key } | Action::Delete { key } => Some(*key),
+        Action::Put { key, .. } | Action::Get { key } | Action::Delete { key } => Some(key),
         Action::Collect { .. } => None,
     }
 }

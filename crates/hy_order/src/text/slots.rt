@@ -62,6 +62,7 @@ pub(crate) fn read_key_above(last: Option<Key>, word: &[u8]) -> Result<Key, Caus
 }
 
 /// The timestamp that the next two words print.
+#[inline(always)]
 pub(crate) fn read_any_stamp(words: &mut Words) -> Result<Stamp, Cause>
     ensures { TakesExactly result words.new (any_stamp_from words.old) }
 {

@@ -4,8 +4,8 @@ use Rattle.hy_order.specs.Keys.{sorted_keys}
 use Rattle.hy_order.specs.ReportRanges.{register_keys}
 use Rattle.hy_order.proofs.text.reading.keys_due.Given as goal
 
-abbrev pub invariant-loop-op : goal.invariant-loop-op
-invariant-loop-op l = l.keys.keys ≡ sorted_keys (register_keys (take l.op-index l.ops))
+abbrev pub invariant-loop-place : goal.invariant-loop-place
+invariant-loop-place l = l.keys.keys ≡ sorted_keys (register_keys (take l.place l.ops))
 
 abbrev pub invariant-loop-key : goal.invariant-loop-key
 invariant-loop-key l = l.due.items ++ l.key-iterator ≡ sorted_keys (register_keys l.ops)
