@@ -1,6 +1,7 @@
 //! The metadata service: it keeps the record of each key and its superseded timestamps, and fires one-time watches.
 #![tactic(auto)]
 
+mod boxed_entry;
 mod entry;
 mod laws;
 mod meta;

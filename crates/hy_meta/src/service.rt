@@ -9,7 +9,7 @@ ghost use Rattle.hy_meta.specs.Entry.{EntryPut, forgotten};
 ghost use Rattle.hy_meta.specs.Held.{Serves, entry_of};
 ghost use Rattle.hy_record.specs.Stamps.{is_rising};
 
-use crate::entry::Entry;
+use crate::boxed_entry::BoxedEntry;
 use crate::meta::{Meta, SessionsFull};
 use crate::watcher::Watcher;
 use hy_base::{MAX_SESSIONS, NoMemory};
@@ -24,7 +24,7 @@ use std::collections::BTreeMap;
 #[derive(Debug, Drop)]
 pub struct Service {
     given: u32,
-    entries: BTreeMap<Key, Entry>,
+    entries: BTreeMap<Key, BoxedEntry>,
 }
 
 impl Service {
@@ -44,7 +44,7 @@ impl Service {
         ensures { IfOk result (λ rec. rec ≡ (entry_of self.now key.now).rec) }
     {
         match self.entries.get(key) {
-            Some(entry) => entry.copied(alloc),
+            Some(entry) => entry.get().copied(alloc),
             None => Ok(None),
         }
     }
@@ -55,7 +55,7 @@ impl Service {
         ensures rising { OnOk result (IsTrue (is_rising (entry_of self.now key.now).olds)) }
     {
         match self.entries.get(key) {
-            Some(entry) => entry.least_olds(alloc),
+            Some(entry) => entry.get().least_olds(alloc),
             None => Ok(Stamps::of(Vec::new(alloc))),
         }
     }
@@ -73,7 +73,7 @@ impl Service {
     }
 
     /// Puts the entry of a key.
-    fn put(&mut self, key: Key, entry: Entry) -> Result<(), NoMemory>
+    fn put(&mut self, key: Key, entry: BoxedEntry) -> Result<(), NoMemory>
         ensures ok { OnOk result (EntryPut (entry_of self.old) (entry_of self.new) key entry) }
         ensures err { OnErr result (self.new.entries.entries ≡ self.old.entries.entries) }
         ensures given { self.new.given ≡ self.old.given }
@@ -115,7 +115,7 @@ impl Service {
         match self.entries.get_mut(key) {
             Some(entry) => entry.update(alloc, client, op, key, rec),
             None => {
-                let mut entry = Entry::new(alloc);
+                let mut entry = BoxedEntry::new(alloc)?;
                 let says = entry.update(alloc, client, op, key, rec)?;
                 self.put(*key, entry)?;
                 Ok(says)
@@ -134,7 +134,7 @@ impl Service {
         match self.entries.get_mut(&watcher.key) {
             Some(entry) => entry.watch(alloc, watcher),
             None => {
-                let mut entry = Entry::new(alloc);
+                let mut entry = BoxedEntry::new(alloc)?;
                 let says = entry.watch(alloc, watcher)?;
                 self.put(watcher.key, entry)?;
                 Ok(says)
@@ -240,14 +240,14 @@ impl Meta for Service {
 
     fn current(&self, key: &Key) -> Option<&Record> {
         match self.entries.get(key) {
-            Some(entry) => entry.record(),
+            Some(entry) => entry.get().record(),
             None => None,
         }
     }
 
     fn is_old(&self, key: &Key, stamp: Stamp) -> bool {
         match self.entries.get(key) {
-            Some(entry) => entry.is_old(&stamp),
+            Some(entry) => entry.get().is_old(&stamp),
             None => false,
         }
     }

@@ -34,17 +34,17 @@ pub returns-in_ok-put-in-None-clause-says : goal.returns-in_ok-put-in-None-claus
 returns-in_ok-put-in-None-clause-says c =
     let entries = c.args.self.now.entries.entries in
     let key = c.args.watcher.key in
-    let found : c.new-entry.result ≡ map_entry entries key = c.new-entry.ensures ∙ entry-found entries key None c.in-None.ensures.value in
+    let found : c.in_ok-entry-in-None.entry ≡ map_entry entries key = c.in_ok-entry-in-None.ensures ∙ entry-found entries key None c.in-None.ensures.value in
     answers-watch (map_entry entries) c.args.watcher.client c.args.watcher.op key c.args.watcher.stamp (Ok c.in_ok-says-in-None.says) (rw found at c.in_ok-says-in-None.ensures.says)
 
 pub returns-in_ok-put-in-None-clause-goes_on : goal.returns-in_ok-put-in-None-clause-goes_on
 returns-in_ok-put-in-None-clause-goes_on c =
     let entries = c.args.self.now.entries.entries in
     let key = c.args.watcher.key in
-    let was : EntryValue = c.new-entry.result in
+    let was : EntryValue = c.in_ok-entry-in-None.entry in
     let now : EntryValue = c.watch-in-None.new.self in
     let then = c.put.new.self.entries.entries in
     let ask : MetaAsk = asks.Watch c.args.watcher.client c.args.watcher.op key c.args.watcher.stamp in
-    let found : was ≡ map_entry entries key = c.new-entry.ensures ∙ entry-found entries key None c.in-None.ensures.value in
+    let found : was ≡ map_entry entries key = c.in_ok-entry-in-None.ensures ∙ entry-found entries key None c.in-None.ensures.value in
     let puts : EntryPut (map_entry entries) (map_entry then) key now = rw c.get_mut.follows.holds-at-none at c.in_ok-put-in-None.ensures.ok in
     goes_on (map_entry entries) (map_entry then) ask (Ok c.in_ok-says-in-None.says) (map-becomes (map_entry entries) (map_entry then) ask was now found c.in_ok-says-in-None.ensures.ok puts) tt
