@@ -1,4 +1,5 @@
 pub mod AnyParts
+pub mod Blocks
 pub mod Bytes
 pub mod Elements
 pub mod FragmentLaws

@@ -33,7 +33,7 @@ flat_map-same f g a (suc n) same =
     ∙ ap (λ z. g a ++ z) (flat_map-same f g (a + 1) n (λ j low high. same j (omega arith) (omega arith)))
 
 -- a range further up
-map-shifted : {X : Type 0} (f : ℕ → X) (c a n : ℕ) → map (λ j. f (c + j)) (range_with_len a n) ≡ map f (range_with_len (c + a) n)
+pub map-shifted : {X : Type 0} (f : ℕ → X) (c a n : ℕ) → map (λ j. f (c + j)) (range_with_len a n) ≡ map f (range_with_len (c + a) n)
 map-shifted f c a zero = refl
 map-shifted f c a (suc n) =
     ap (λ z. f (c + a) ∷ z) (map-shifted f c (a + 1) n ∙ ap (λ b. map f (range_with_len b n)) (omega arith))

@@ -1,5 +1,5 @@
 -- Rows of picks, added up with their weights.
-use Rattle.std.proofs.Common.{◌≡◌, ℕ, zero, suc, ◌+◌, ◌<◌, List, [], ◌∷◌, ◌++◌, length, get_or, take, drop, replicate, map, eqb, refl, sym, ap, ◌∙◌, arith, subst}
+use Rattle.std.proofs.Common.{◌≡◌, ℕ, suc, ◌+◌, ◌<◌, List, [], ◌∷◌, ◌++◌, length, get_or, take, drop, replicate, map, eqb, refl, sym, ap, ◌∙◌, arith, subst}
 use Rattle.std.specs.List.{fold, range_with_len}
 use Rattle.std.specs.Int.Bits.{bit_xor, xor_assoc, xor_zero_l, xor_zero_r}
 use Rattle.std.proofs.Math.ListN.{get_or-map}
@@ -7,7 +7,7 @@ use Rattle.std.proofs.lemmas.Grind.{same_number_lists}
 use Rattle.std.proofs.lemmas.List.{get_or-replicate, length-replicate, take_more, take_all, drop_all, append-nil}
 use Rattle.std.proofs.lemmas.List.Sums.{fold_more}
 use Rattle.std.proofs.lemmas.List.FromFn.{get_or-map-range_with_len, length-map-range_with_len}
-use Rattle.hy_gf.specs.Gf.{gf, gf_sum, gf_product, IsElement}
+use Rattle.hy_gf.specs.Gf.{gf, gf_product, IsElement}
 use Rattle.hy_gf.specs.Row.{row_sum}
 use Rattle.hy_gf.specs.RowLaws.{length-row_sum, get_or-row_sum}
 use Rattle.hy_code.proofs.Bytes.{value_at-weights}

@@ -1,3 +1,4 @@
+pub mod Block
 pub mod Fragments
 pub mod Points
 pub mod Polynomial

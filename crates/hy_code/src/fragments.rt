@@ -6,10 +6,11 @@ ghost use Rattle.hy_code.specs.Fragments.{clouds, fragment_of, parts_of};
 ghost use Rattle.hy_code.specs.Polynomial.{AreDifferent};
 ghost use Rattle.hy_base.specs.Shape.{fragment_size as fragment_size_of};
 
+use crate::block::Block;
 use crate::parts::parts;
 use crate::pick::Pick;
 use crate::polynomials::Polynomials;
-use hy_base::{Blob, MAX_N, MAX_VALUE, NoMemory, fragment_size};
+use hy_base::{MAX_N, MAX_VALUE, NoMemory, fragment_size};
 use std::alloc::Global;
 use std::marker::Model;
 
@@ -17,13 +18,13 @@ use std::marker::Model;
 #[derive(Debug, Drop)]
 pub struct Fragments {
     parts: Vec<Pick>,
-    others: Vec<Blob>,
+    others: Block,
 }
 
 impl Model for Fragments {
     ghost Value = { List (List ℕ) };
 
-    ghost view = { λ fragments. map (λ pick. pick.bytes) fragments.parts.items ++ fragments.others.items };
+    ghost view = { λ fragments. map (λ pick. pick.bytes) fragments.parts.items ++ fragments.others };
 }
 
 impl Fragments {
@@ -36,7 +37,7 @@ impl Fragments {
         if place < self.parts.len() {
             self.parts[place].bytes.bytes()
         } else {
-            self.others[place - self.parts.len()].bytes()
+            self.others.get(place - self.parts.len())
         }
     }
 }
@@ -56,20 +57,21 @@ pub fn split(alloc: Global, value: &[u8], k: u8, n: u8) -> Result<Fragments, NoM
 }
 
 /// The fragments for the clouds from k on.
-fn others(alloc: Global, value: &[u8], parts: &[Pick], k: u8, n: u8) -> Result<Vec<Blob>, NoMemory>
+fn others(alloc: Global, value: &[u8], parts: &[Pick], k: u8, n: u8) -> Result<Block, NoMemory>
     requires one_part { 1 ≤ k }
     requires parts_fit { k ≤ n }
     requires size_fits { length value.now ≤ MAX_VALUE }
     requires parts { parts.now ≡ parts_of value.now k }
     requires sizes { All (λ pick. length pick.bytes ≡ fragment_size_of (length value.now) k) parts.now }
     requires different { AreDifferent (clouds parts.now) }
-    ensures { IfOk result (λ others. others.items ≡ map (fragment_of value.now k) (range_with_len k (n - k))) }
+    ensures { IfOk result (λ others. others ≡ map (fragment_of value.now k) (range_with_len k (n - k))) }
 {
     let size = fragment_size(value.len() as u32, k) as usize;
     let polynomials = Polynomials::through(alloc, parts)?;
-    let mut others = Vec::with_capacity(alloc, (n - k) as usize)?;
+    let count = (n - k) as usize;
+    let mut bytes = Vec::with_capacity(alloc, count * size)?;
     for cloud in k..n {
-        others.push(Blob::of(polynomials.row(alloc, size, cloud)?))?;
+        polynomials.append_row(size, cloud, &mut bytes)?;
     }
-    Ok(others)
+    Ok(Block::of(bytes, size, count))
 }

@@ -1,6 +1,7 @@
 //! Values cut into fragments, one a cloud, of which any few rebuild the value.
 #![tactic(auto)]
 
+mod block;
 mod fault;
 mod fragments;
 mod laws;

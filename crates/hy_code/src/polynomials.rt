@@ -1,6 +1,6 @@
 //! The polynomials through picked bytes, one for each place, and their bytes at other clouds.
 
-ghost use Rattle.std.specs.Prelude.{◌≡◌, ◌==◌, ◌<◌, ℕ, [], IfOk, IfSome, length, map, replicate, slice_index, slice_index_or, All};
+ghost use Rattle.std.specs.Prelude.{◌≡◌, ◌==◌, ◌++◌, ◌<◌, ◌^◌, ℕ, [], IfOk, IfSome, OnOk, length, map, replicate, slice_index, slice_index_or, All};
 ghost use Rattle.hy_gf.specs.Gf.{gf};
 ghost use Rattle.hy_code.specs.Fragments.{clouds, row_at};
 ghost use Rattle.hy_code.specs.Points.{ArePoints};
@@ -59,18 +59,34 @@ impl<'a> Polynomials<'a> {
         None
     }
 
-    /// The bytes at a cloud, as many as in each pick.
-    pub(crate) fn row(&self, alloc: Global, size: usize, cloud: u8) -> Result<Vec<u8>, NoMemory>
-        requires { All (λ pick. length pick.bytes ≡ size) self.now }
-        ensures { IfOk result (λ bytes. bytes.items ≡ row_at size self.now cloud) }
+    /// Appends the bytes at a cloud, as many as in each pick.
+    pub(crate) fn append_row(
+        &self,
+        size: usize,
+        cloud: u8,
+        out: &mut Vec<u8>,
+    ) -> Result<(), NoMemory>
+        requires small { size < 2 ^ 32 }
+        requires sizes { All (λ pick. length pick.bytes ≡ size) self.now }
+        ensures { OnOk result (out.new.items ≡ out.old.items ++ row_at size self.now cloud) }
     {
-        let mut bytes = vec![in alloc; 0u8; size]?;
+        let start = out.len();
+        out.resize(start + size, 0)?;
+        self.fill(cloud, &mut out[start..]);
+        Ok(())
+    }
+
+    /// Turns zeros, as many as there are bytes in each pick, into the bytes at a cloud.
+    fn fill(&self, cloud: u8, out: &mut [u8])
+        requires sizes { All (λ pick. length pick.bytes ≡ length out.old) self.now }
+        requires zeros { out.old ≡ replicate (length out.old) 0 }
+        ensures { out.new ≡ row_at (length out.old) self.now cloud }
+    {
         if self.picks.len() == 4 {
-            add_four(self.picks, &self.scales, cloud, bytes.as_mut_slice());
+            add_four(self.picks, &self.scales, cloud, out);
         } else {
-            add_each(self.picks, &self.scales, cloud, bytes.as_mut_slice());
+            add_each(self.picks, &self.scales, cloud, out);
         }
-        Ok(bytes)
     }
 }
 

@@ -1,6 +1,6 @@
 //! The value that picked fragments rebuild.
 
-ghost use Rattle.std.specs.Prelude.{◌≡◌, ◌++◌, ◌≤◌, ◌==◌, ℕ, List, [], OnOk, length, take, All, IfSome, IfOk, IfErr, MatchOption};
+ghost use Rattle.std.specs.Prelude.{◌≡◌, ◌++◌, ◌<◌, ◌≤◌, ◌==◌, ◌^◌, ℕ, List, [], OnOk, length, take, All, IfSome, IfOk, IfErr, MatchOption};
 ghost use Rattle.std.specs.List.{list_any};
 ghost use Rattle.hy_base.specs.Shape.{fragment_size as fragment_size_of};
 ghost use Rattle.hy_gf.specs.Gf.{IsElement};
@@ -80,7 +80,7 @@ fn parts_joined(alloc: Global, size: u32, k: u8, picks: &[Pick]) -> Result<Vec<u
     let polynomials = Polynomials::through(alloc, picks)?;
     let mut value = Vec::with_capacity(alloc, k as usize * fragment_size)?;
     for part in 0..k {
-        append_part(alloc, &polynomials, fragment_size, part, &mut value)?;
+        append_part(&polynomials, fragment_size, part, &mut value)?;
     }
     value.truncate(size as usize);
     Ok(value)
@@ -88,12 +88,12 @@ fn parts_joined(alloc: Global, size: u32, k: u8, picks: &[Pick]) -> Result<Vec<u
 
 /// Appends the bytes of a part: those that were picked, or those that lie on the polynomials.
 fn append_part(
-    alloc: Global,
     polynomials: &Polynomials,
     size: usize,
     part: u8,
     value: &mut Vec<u8>,
 ) -> Result<(), NoMemory>
+    requires small { size < 2 ^ 32 }
     requires sizes { All (λ pick. length pick.bytes ≡ size) polynomials.now }
     ensures { OnOk result (value.new.items ≡ value.old.items ++ row_at size polynomials.now part) }
 {
@@ -102,10 +102,6 @@ fn append_part(
             value.extend_from_slice(bytes)?;
             Ok(())
         }
-        None => {
-            let bytes = polynomials.row(alloc, size, part)?;
-            value.extend_from_slice(&bytes)?;
-            Ok(())
-        }
+        None => polynomials.append_row(size, part, value),
     }
 }

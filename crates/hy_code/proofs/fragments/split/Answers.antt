@@ -1,8 +1,8 @@
 use Rattle.std.proofs.lemmas.List.FromFn.{length-map-range_with_len}
-use Rattle.std.proofs.Common.{◌≡◌, ◌∙◌, ◌<◌, ℕ, List, sym, ap, subst, length, get_or, rules, arith}
+use Rattle.std.proofs.Common.{◌∙◌, List, sym, ap, subst, length, arith}
 use Rattle.hy_base.specs.Shape.{fragment_size}
 use Rattle.hy_code.specs.declared.pick.Pick.{Pick}
-use Rattle.hy_code.specs.Fragments.{clouds, fragment_of, parts_of}
+use Rattle.hy_code.specs.Fragments.{clouds, fragment_of}
 use Rattle.hy_code.specs.Polynomial.{AreDifferent}
 use Rattle.hy_code.proofs.FirstParts.{all_fragments, elements_from}
 use Rattle.hy_code.proofs.PartLemmas.{parts_of-sized, parts_of-different}
@@ -25,7 +25,7 @@ others-requires-clause-different c =
 
 pub returns-clause-each : goal.returns-clause-each
 returns-clause-each c =
-    all_fragments c.args.value.now c.args.k c.args.n c.in_ok-parts.parts.items c.in_ok-others.others.items
+    all_fragments c.args.value.now c.args.k c.args.n c.in_ok-parts.parts.items c.in_ok-others.others
     (elements_from c.args.value.now (λ i. (c.type_inv.value i).fits)) (omega (arith, c.ranges.k.fits)) c.requires.parts_fit c.in_ok-parts.ensures c.in_ok-others.ensures
 
 pub returns-clause-count : goal.returns-clause-count

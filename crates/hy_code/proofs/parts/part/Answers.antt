@@ -1,4 +1,4 @@
-use Rattle.std.proofs.Common.{◌≡◌, ◌∙◌, ◌*◌, ◌++◌, ap, sym, List, ℕ, length}
+use Rattle.std.proofs.Common.{◌∙◌, ◌*◌, ◌++◌, ap, List, ℕ}
 use Rattle.hy_code.specs.declared.pick.Pick.{Pick}
 use Rattle.hy_code.proofs.PartLemmas.{padded}
 use Rattle.hy_code.proofs.parts.part.Goals as goal

@@ -1,4 +1,3 @@
-use Rattle.std.proofs.Common.{rules}
 use Rattle.hy_code.proofs.Points.{product_is}
 use Rattle.hy_code.proofs.polynomials.product.Goals as goal
 

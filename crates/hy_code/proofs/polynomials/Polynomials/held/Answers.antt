@@ -1,4 +1,4 @@
-use Rattle.std.proofs.Common.{◌∙◌, ap, sym, subst, List, ◌≡◌}
+use Rattle.std.proofs.Common.{◌∙◌, ap, sym, subst, List}
 use Rattle.hy_code.specs.Fragments.{row_at}
 use Rattle.hy_code.specs.declared.pick.Pick.{Pick}
 use Rattle.hy_code.proofs.Points.{held_row}

@@ -1,4 +1,4 @@
-use Rattle.std.proofs.Common.{◌≡◌, ◌<◌, ◌∙◌, ap, rules, subst, List, ℕ, get_or, eqb}
+use Rattle.std.proofs.Common.{◌<◌, rules, subst, List, ℕ, get_or, eqb}
 use Rattle.hy_gf.specs.Gf.{gf}
 use Rattle.hy_code.specs.Fragments.{clouds}
 use Rattle.hy_code.specs.Weights.{scale}
