@@ -1,5 +1,5 @@
 -- The deed of each step: which one begins an operation, tells it the record, serves its update, or lets it return.
-use Rattle.std.proofs.Common.{◌≡◌, ℕ, ◌+◌, ◌≤◌, ◌<◌, Bool, true, false, cond, List, [], ◌∷◌, length, map, Option, Some, None, refl, sym, ap, subst, ◌∙◌, inl, inr, arith}
+use Rattle.std.proofs.Common.{◌≡◌, ℕ, ◌+◌, ◌≤◌, ◌<◌, true, false, List, [], ◌∷◌, length, map, Option, Some, None, refl, sym, ap, subst, ◌∙◌, inl, inr, arith}
 use Rattle.std.specs.Prelude.{◌⊎◌, ◌&&◌, ◌==◌, if◌then◌else◌}
 use Rattle.std.specs.List.{AllByRecursion}
 use Rattle.std.specs.Option.{option_map}
@@ -27,12 +27,12 @@ use Rattle.hy_trace.specs.Messages.{Message, Ask, Say, Request, Answer, message_
 use Rattle.hy_trace.specs.Points.{Update, update_at, passing, first_update, is_own}
 use Rattle.hy_trace.specs.Trace.{Fits, IsTrace}
 use Rattle.hy_trace.proofs.Growth.{or-cases, all-among, start-keeps}
-use Rattle.hy_trace.proofs.Steps.{HasReplied, has-replied, replied-has}
+use Rattle.hy_trace.proofs.Steps.{has-replied, replied-has}
 use Rattle.hy_theorems.proofs.Invariant.{begins-empty, trace-holds}
 use Rattle.hy_theorems.proofs.Meaning.{IsBegun}
 use Rattle.hy_theorems.proofs.ReadPoints.{has-at}
 use Rattle.hy_theorems.proofs.RealTime.{returned-within, return-reply}
-use Rattle.hy_theorems.proofs.TopAt.{IsServedUpdate, first-served, serves-or-not}
+use Rattle.hy_theorems.proofs.TopAt.{first-served, serves-or-not}
 use Rattle.hy_theorems.proofs.Writes.{all-mapped}
 use Rattle.hy_log.proofs.Coursing.{never-replied, no-reply}
 use Rattle.hy_log.proofs.FirstMade.{update-is, passes-own}

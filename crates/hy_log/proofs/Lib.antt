@@ -14,3 +14,5 @@ pub mod DeedAt
 pub mod FirstMade
 pub mod TraceRuns
 pub mod TracePoints
+pub mod TraceOrders
+pub mod TraceKeys

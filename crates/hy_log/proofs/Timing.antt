@@ -1,6 +1,5 @@
 -- The points that the log tells are those of the trace.
-use Rattle.std.proofs.Common.{◌≡◌, ℕ, ◌+◌, List, [], ◌∷◌, ◌++◌, length, map, reverse, take, Option, Some, None, refl, sym, ap, subst, ◌∙◌, arith}
-use Rattle.std.specs.List.{AllByRecursion}
+use Rattle.std.proofs.Common.{◌≡◌, ℕ, ◌+◌, List, [], ◌∷◌, ◌++◌, length, map, reverse, take, Option, Some, None, refl, sym, ap, ◌∙◌, arith}
 use Rattle.std.specs.Option.{option_and_then, option_map}
 use Rattle.std.specs.Cmp.{IsTotalOrder}
 use Rattle.std.proofs.lemmas.Cmp.{nat_cmp_total}
@@ -10,26 +9,23 @@ use Rattle.hy_record.specs.declared.action.Action.TheVariants as asked
 use Rattle.hy_record.specs.Record.{RecordValue}
 use Rattle.hy_record.specs.Stamp.{Timestamp, next_stamp}
 use Rattle.hy_meta.specs.Service.{stamp_of_record}
-use Rattle.hy_protocol.specs.Operations.{write_plan}
 use Rattle.hy_protocol.specs.Write.{first_has, own_stamp, stamp_upon}
-use Rattle.hy_order.specs.declared.operation.Operation.{Operation}
 use Rattle.hy_order.specs.History.{IsNumberedFrom}
 use Rattle.hy_points.specs.declared.point.ActKind.{ActKind}
 use Rattle.hy_points.specs.declared.point.ActKind.TheVariants as acts
 use Rattle.hy_points.specs.Marks.{sorted_by}
 use Rattle.hy_trace.specs.Deeds.{Params, Deed, inputs_of}
-use Rattle.hy_trace.specs.History.{Return, return_of, Begun, begun_of, operation_of, history_of}
+use Rattle.hy_trace.specs.History.{return_of, Begun, begun_of, operation_of, history_of}
 use Rattle.hy_trace.specs.Points.{Update, first_update, is_own}
 use Rattle.hy_trace.specs.Trace.{IsTrace}
 use Rattle.hy_theorems.proofs.Histories.{is-history}
 use Rattle.hy_log.specs.declared.course.Course.{Course}
-use Rattle.hy_log.specs.declared.course.FirstUpdate.{FirstUpdate}
 use Rattle.hy_log.specs.declared.log.Started.{Started}
 use Rattle.hy_log.specs.declared.moment.Moment.{Moment}
 use Rattle.hy_log.specs.Kept.{Posted}
 use Rattle.hy_log.specs.Courses.{AreCourses, course_of, kept_return, kept_update, version_stamp}
 use Rattle.hy_log.specs.Log.{LogKeeps}
-use Rattle.hy_log.specs.Points.{step_cmp, act_kind, write_ask, read_ask, set_with, write_set, return_end, begun_with, moments_by, moments_of, all_moments, point_at, points_of, acting_moments, ask_at, ask_moment, set_at, set_moment, end_moment, those_told, moments_with, operation_moments, moments_from}
+use Rattle.hy_log.specs.Points.{step_cmp, act_kind, write_ask, read_ask, set_with, write_set, return_end, begun_with, moments_by, moments_of, all_moments, point_at, points_of, ask_moment, set_at, set_moment, end_moment, those_told, moments_with, operation_moments, moments_from}
 use Rattle.hy_log.proofs.Telling.{start_line, started-begun}
 
 -- ---- operation by operation

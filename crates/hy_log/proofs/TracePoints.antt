@@ -1,9 +1,9 @@
 -- The points of a trace are an atomic log in which no operation reads twice.
-use Rattle.std.proofs.Common.{◌≡◌, ℕ, ◌+◌, ◌≤◌, ◌<◌, Bool, true, false, List, [], ◌∷◌, ◌++◌, length, map, reverse, Option, Some, None, refl, sym, ap, subst, ◌∙◌, inl, inr, arith}
+use Rattle.std.proofs.Common.{◌≡◌, ℕ, ◌+◌, ◌<◌, Bool, false, List, [], ◌∷◌, ◌++◌, length, reverse, Option, Some, None, refl, sym, ap, subst, ◌∙◌, inl, inr, arith}
 use Rattle.std.specs.Prelude.{◌⊎◌}
-use Rattle.std.specs.List.{AllByRecursion, filter_map, cons_option}
+use Rattle.std.specs.List.{AllByRecursion}
 use Rattle.std.specs.Option.{option_map, option_and_then}
-use Rattle.std.specs.Ordering.{is_lt, nat_cmp}
+use Rattle.std.specs.Ordering.{is_lt}
 use Rattle.std.proofs.lemmas.Option.{none-some, same_Some}
 use Rattle.hy_record.specs.declared.action.Action.{Action}
 use Rattle.hy_record.specs.declared.action.Action.TheVariants as asked
@@ -19,17 +19,17 @@ use Rattle.hy_points.specs.declared.point.Point.{Point}
 use Rattle.hy_points.specs.declared.point.Point.TheVariants as points
 use Rattle.hy_points.specs.Atomic.{IsAtomicLog, AsksOnce}
 use Rattle.hy_points.specs.Marks.{sorted_by}
-use Rattle.hy_points.specs.Runs.{Reading, Writing, Run, IsPointOf}
+use Rattle.hy_points.specs.Runs.{Reading, Run, IsPointOf}
 use Rattle.hy_points.proofs.ByMoment.{nat-upto}
 use Rattle.hy_points.proofs.Listing.{IsIn, in-sorted, AllPairs, pairs-sorted, all-sort}
+use Rattle.hy_points.proofs.OneOrder.{all-of, all-in}
 use Rattle.hy_points.proofs.RunLog.{AreRising, AreMomentsOf, is-atomic, asks-once}
 use Rattle.hy_points.proofs.Sorting.{AreInOrder, all-each, sorted-ordered}
 use Rattle.hy_trace.specs.Deeds.{Params, Deed, Joined, Began, Handed, Served, Granted, Stopped, Nothing, start_of, inputs_of}
 use Rattle.hy_trace.specs.History.{Return, return_of, Begun, begun_of}
 use Rattle.hy_trace.specs.Points.{Update, first_update, is_own, version_made}
 use Rattle.hy_trace.specs.Trace.{IsTrace}
-use Rattle.hy_trace.proofs.Growth.{start-same}
-use Rattle.hy_theorems.proofs.Beginnings.{AreOthers, IsAmongBegun, begun, begun-are, begun-in}
+use Rattle.hy_theorems.proofs.Beginnings.{AreOthers, IsAmongBegun, begun-are, begun-in}
 use Rattle.hy_theorems.proofs.Listing as listing
 use Rattle.hy_theorems.proofs.TopAt.{top_at}
 use Rattle.hy_log.specs.declared.moment.Moment.{Moment}
@@ -38,11 +38,11 @@ use Rattle.hy_log.specs.Points.{moment, point_at, those_told, step_cmp, write_as
 use Rattle.hy_log.proofs.DeedAt.{deed_at, read-deed, begin-deed, update-deed, end-deed}
 use Rattle.hy_log.proofs.FirstMade.{first-sent, version-sent}
 use Rattle.hy_log.proofs.Timing.{steps-total}
-use Rattle.hy_log.proofs.TraceRuns.{number_of, writing_with, first_reading, version_reading, own_writing, own_end, run_with, run_by, IsRun, IsWriteRun, IsReadRun, kind, begun-is, map-some, writing-parts, are-runs}
+use Rattle.hy_log.proofs.TraceRuns.{number_of, writing_with, first_reading, version_reading, own_writing, own_end, run_with, run_by, IsRun, kind, begun-is, map-some, writing-parts, are-runs}
 
 -- ---- lists
 
-abbrev step_of : Moment → ℕ
+abbrev pub step_of : Moment → ℕ
 step_of m = m.step
 
 in-front : {A : Type 0} (xs ys : List A) (x : A) → IsIn xs x → IsIn (xs ++ ys) x
@@ -58,15 +58,6 @@ in-either : {A : Type 0} (xs ys : List A) (x : A) → IsIn (xs ++ ys) x → IsIn
 in-either [] ys x is = inr is
 in-either (first ∷ xs) ys x (inl is) = inl (inl is)
 in-either (first ∷ xs) ys x (inr later) = elim (in-either xs ys x later) [ inl front ↦ inl (inr front) | inr back ↦ inr back ]
-
-all-of : {A : Type 0} (P : A → Type 0) (xs : List A) (x : A) → AllByRecursion P xs → IsIn xs x → P x
-all-of P [] x all is = absurd is
-all-of P (first ∷ xs) x all (inl is) = subst P is all.0
-all-of P (first ∷ xs) x all (inr later) = all-of P xs x all.1 later
-
-all-in : {A : Type 0} (P : A → Type 0) (xs : List A) → ((x : A) → IsIn xs x → P x) → AllByRecursion P xs
-all-in P [] each = tt
-all-in P (x ∷ xs) each = (each x (inl refl), all-in P xs (λ y is. each y (inr is)))
 
 of-sorted : {A : Type 0} (cmp : A → A → _) (xs : List A) (x : A) → IsIn (sorted_by cmp xs) x → IsIn xs x
 of-sorted cmp xs x is = all-of (λ y. IsIn xs y) (sorted_by cmp xs) x (all-sort cmp (λ y. IsIn xs y) xs (all-in (λ y. IsIn xs y) xs (λ y there. there))) is
@@ -330,7 +321,7 @@ module _ (p : Params) (t : List Deed) (trace : IsTrace p t) where
       each [] within pairs = tt
       each (x ∷ xs) within pairs = (one x xs (within x (inl refl)) (λ y is. within y (inr is)) pairs.0, each xs (λ y is. within y (inr is)) pairs.1)
 
-  abbrev HasBegun : Begun → Type 0
+  abbrev pub HasBegun : Begun → Type 0
   HasBegun b = start_of b.client b.op t ≡ Some b.start
 
   abbrev AreUnlike : Begun → Begun → Type 0
@@ -377,7 +368,7 @@ others-reverse (b ∷ ops) others =
 in-snoc : {A : Type 0} (xs : List A) (x : A) → IsIn (xs ++ x ∷ []) x
 in-snoc xs x = in-back xs (x ∷ []) x (inl refl)
 
-among-reverse : (ops : List Begun) (b : Begun) → IsAmongBegun ops b → IsIn (reverse ops) b
+pub among-reverse : (ops : List Begun) (b : Begun) → IsAmongBegun ops b → IsIn (reverse ops) b
 among-reverse [] b is = absurd is
 among-reverse (first ∷ ops) b (inl is) = subst (λ (x : List Begun). IsIn x b) (sym (listing.reverse-more first ops)) (subst (λ (x : Begun). IsIn (reverse ops ++ first ∷ []) x) is (in-snoc (reverse ops) first))
 among-reverse (first ∷ ops) b (inr later) = subst (λ (x : List Begun). IsIn x b) (sym (listing.reverse-more first ops)) (in-front (reverse ops) (first ∷ []) b (among-reverse ops b later))
@@ -394,13 +385,13 @@ module _ (p : Params) (t : List Deed) (trace : IsTrace p t) where
   abbrev ops : List Begun
   ops = reverse (begun_of t)
 
-  abbrev in_order : List Moment
+  abbrev pub in_order : List Moment
   in_order = sorted_by step_cmp (all_moments p t ops)
 
-  began-all : AllByRecursion (HasBegun p t trace) ops
+  pub began-all : AllByRecursion (HasBegun p t trace) ops
   began-all = listing.all-reverse (HasBegun p t trace) (begun_of t) (begun-are p t trace).0
 
-  are-moments : AreMomentsOf step_of point_at (IsRun p t) in_order
+  pub are-moments : AreMomentsOf step_of point_at (IsRun p t) in_order
   are-moments = record {
     rising = strictly in_order (sorted-ordered step_cmp steps-total (all_moments p t ops))
         (pairs-sorted step_cmp (λ m x. m.step ≡ x.step → ⊥) (λ m x other same. other (sym same)) (all_moments p t ops) (all-apart p t trace ops began-all (others-reverse (begun_of t) (begun-are p t trace).1)));

@@ -1,10 +1,9 @@
 -- The operations of a trace are runs: one by one at each client, over the record of their key.
-use Rattle.std.proofs.Common.{◌≡◌, ℕ, ◌+◌, ◌-◌, ◌≤◌, ◌<◌, Bool, true, false, List, [], ◌∷◌, length, map, reverse, Option, Some, None, is_some, refl, sym, ap, subst, ◌∙◌, inl, inr, arith}
-use Rattle.std.specs.Prelude.{◌⊎◌, ◌==◌, nat_le}
-use Rattle.std.specs.List.{AllByRecursion}
+use Rattle.std.proofs.Common.{◌≡◌, ℕ, ◌+◌, ◌≤◌, ◌<◌, Bool, true, false, List, [], ◌∷◌, length, Option, Some, None, is_some, refl, sym, ap, subst, ◌∙◌, inl, inr, arith}
+use Rattle.std.specs.Prelude.{◌⊎◌}
 use Rattle.std.specs.Option.{option_map, option_and_then}
 use Rattle.std.proofs.lemmas.Option.{none-some, same_Some}
-use Rattle.std.proofs.lemmas.Bool.{both_ways, cases_lt, eqb-true, eqb-false}
+use Rattle.std.proofs.lemmas.Bool.{both_ways, cases_lt}
 use Rattle.hy_record.specs.declared.action.Action.{Action}
 use Rattle.hy_record.specs.declared.action.Action.TheVariants as asked
 use Rattle.hy_record.specs.declared.message.MetaAsk.TheVariants as asks
@@ -16,22 +15,21 @@ use Rattle.hy_record.proofs.Order.{stamp_lt-same, stamp_lt-neither, stamp_eq-tru
 use Rattle.hy_meta.specs.Service.{stamp_of_record}
 use Rattle.hy_meta.proofs.Rising.{cases_bool}
 use Rattle.hy_protocol.specs.Operations.{key_of, write_plan, replied}
-use Rattle.hy_protocol.specs.Read.{Version, version_of, read_reply}
+use Rattle.hy_protocol.specs.Read.{version_of, read_reply}
 use Rattle.hy_protocol.specs.Write.{first_has, own_stamp, stamp_upon, write_reply}
 use Rattle.hy_points.specs.declared.point.ActKind.{ActKind}
 use Rattle.hy_points.specs.declared.point.ActKind.TheVariants as acts
 use Rattle.hy_points.specs.Atomic.{no_stamp, writes}
 use Rattle.hy_points.specs.Runs.{Reading, Writing, Run, MayReturn, ReadsWell, WritesWell, IsRaised, AreRuns}
-use Rattle.hy_trace.specs.Deeds.{Params, Deed, Joined, Began, Handed, Served, Granted, Stopped, Nothing, Start, served, inputs_of, start_of, start_at, reply_of}
+use Rattle.hy_trace.specs.Deeds.{Params, Deed, Joined, Began, Handed, Served, Granted, Stopped, Nothing, Start, inputs_of, start_of, start_at, reply_of}
 use Rattle.hy_trace.specs.History.{Return, return_of, Begun, begun_of}
 use Rattle.hy_trace.specs.Messages.{Ask, Say, IsSentAt}
-use Rattle.hy_trace.specs.Points.{Update, first_update, is_own, version_made, was_applied}
+use Rattle.hy_trace.specs.Points.{Update, first_update, is_own, version_made}
 use Rattle.hy_trace.specs.Trace.{IsTrace}
-use Rattle.hy_trace.proofs.Growth.{Le, zero_stamp, zero-least, or-first, or-cases, some-is, start-same, start-now}
-use Rattle.hy_trace.proofs.Steps.{HasReplied}
+use Rattle.hy_trace.proofs.Growth.{zero_stamp, zero-least, or-first, or-cases, start-same, start-now}
 use Rattle.hy_theorems.specs.Writing.{IsWriting, write_action}
-use Rattle.hy_theorems.proofs.Apart.{own-has, replies-by, replied-write, start-trace, start-lasts, start-order}
-use Rattle.hy_theorems.proofs.Beginnings.{IsAmongBegun, begun, begun-are, begun-in}
+use Rattle.hy_theorems.proofs.Apart.{own-has, replies-by, replied-write, start-trace}
+use Rattle.hy_theorems.proofs.Beginnings.{begun}
 use Rattle.hy_theorems.proofs.Invariant.{trace-holds}
 use Rattle.hy_theorems.proofs.Meaning.{IsUpdating, asked-sent}
 use Rattle.hy_theorems.proofs.Overwritten.{first-applied, own-update, at-asked}
@@ -201,7 +199,7 @@ began-same : {c o b n : ℕ} {a x : Action} → Some (Began c o a) ≡ Some (Beg
 began-same e = (cc, cc)
 
 -- operations that began at one step are one
-one-start : (c o b n : ℕ) (t : List Deed) (s u : Start) → start_of c o t ≡ Some s → start_of b n t ≡ Some u → length s.before ≡ length u.before → (c ≡ b) × (o ≡ n)
+pub one-start : (c o b n : ℕ) (t : List Deed) (s u : Start) → start_of c o t ≡ Some s → start_of b n t ≡ Some u → length s.before ≡ length u.before → (c ≡ b) × (o ≡ n)
 one-start c o b n t s u first second same =
     let e : length s.before + 1 ≡ length u.before + 1 = omega (arith, same) in
     began-same (sym (begin-deed c o t s first).0 ∙ (ap (deed_at t) e ∙ (begin-deed b n t u second).0))

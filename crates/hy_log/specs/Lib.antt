@@ -5,3 +5,4 @@ pub mod History
 pub mod Log
 pub mod Orders
 pub mod Points
+pub mod RunOrders

@@ -1,16 +1,15 @@
 -- The points of a trace: the moments that decide the orders of its operations.
-use Rattle.std.specs.Prelude.{ℕ, ◌+◌, Bool, List, [], ◌∷◌, ◌++◌, length, map, reverse, Option, Some, None}
+use Rattle.std.specs.Prelude.{ℕ, ◌+◌, List, [], ◌∷◌, ◌++◌, length, map, reverse, Option, Some, None}
 use Rattle.std.specs.declared.cmp.Ordering.{Ordering}
 use Rattle.std.specs.List.{filter_map}
 use Rattle.std.specs.Option.{option_and_then, option_map}
 use Rattle.std.specs.Ordering.{nat_cmp}
 use Rattle.hy_record.specs.declared.action.Action.{Action}
 use Rattle.hy_record.specs.declared.action.Action.TheVariants as asked
-use Rattle.hy_record.specs.Record.{RecordValue}
 use Rattle.hy_record.specs.Stamp.{Timestamp, next_stamp}
 use Rattle.hy_meta.specs.Service.{stamp_of_record}
 use Rattle.hy_protocol.specs.Operations.{write_plan}
-use Rattle.hy_protocol.specs.Read.{Version, version_of}
+use Rattle.hy_protocol.specs.Read.{version_of}
 use Rattle.hy_protocol.specs.Write.{first_has, own_stamp}
 use Rattle.hy_points.specs.declared.point.ActKind.{ActKind}
 use Rattle.hy_points.specs.declared.point.ActKind.TheVariants as acts

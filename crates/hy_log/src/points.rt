@@ -7,6 +7,7 @@ ghost use Rattle.hy_trace.specs.Deeds.{Params as TraceParams, Deed};
 ghost use Rattle.hy_trace.specs.Trace.{IsTrace};
 ghost use Rattle.hy_log.specs.Log.{Keeps};
 ghost use Rattle.hy_log.specs.Courses.{course_at};
+ghost use Rattle.hy_log.specs.RunOrders.{OrdersRun};
 ghost use Rattle.hy_log.specs.Points.{
   moments_from,
   operation_moments,
@@ -26,7 +27,8 @@ use hy_record::Key;
 use std::alloc::Global;
 
 impl Log {
-    /// The points of the puts, gets and deletes, in the order of their steps.
+    /// The points of the puts, gets and deletes, in the order of their steps. The orders by them are
+    /// those of the run's report.
     ///
     /// It takes time n log n in the operations. More than 4,294,967,295 of them are refused as want of
     /// memory.
@@ -37,6 +39,8 @@ impl Log {
             IsTrace p t → Keeps self.now p t → IsAtomicLog points) }
         ensures once { IfOk result (λ points. (p : TraceParams) (t : List Deed) →
             IsTrace p t → Keeps self.now p t → AsksOnce points) }
+        ensures order { IfOk result (λ points. (p : TraceParams) (t : List Deed) →
+            IsTrace p t → Keeps self.now p t → OrdersRun p t points) }
     {
         let moments = self.moments(alloc)?;
         let sorted = in_order(moments)?;

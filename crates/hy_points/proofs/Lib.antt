@@ -14,3 +14,6 @@ mod LogLaw
 mod ByStamp
 mod StampLaw
 pub mod RunLog
+pub mod OneOrder
+pub mod RunOrder
+pub mod SortedKeys

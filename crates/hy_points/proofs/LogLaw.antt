@@ -1,6 +1,6 @@
 -- The order of a key by an atomic log: it lists what it should, respects real time, and each read finds the last write.
 use Rattle.std.proofs.Common.{◌≡◌, ℕ, ◌<◌, Bool, true, false, cond, List, [], ◌∷◌, map, take, Option, Some, None, is_some, refl, sym, ap, subst, ◌∙◌, inl, inr, arith}
-use Rattle.std.specs.Prelude.{◌⊎◌, ◌||◌, if◌then◌else◌, Contains}
+use Rattle.std.specs.Prelude.{◌⊎◌, ◌||◌, if◌then◌else◌}
 use Rattle.std.specs.List.{AllByRecursion, slice_get}
 use Rattle.std.specs.Option.{option_map_or}
 use Rattle.std.proofs.lemmas.Bool.{both_ways, ltb-true}
@@ -26,7 +26,7 @@ use Rattle.hy_points.proofs.Heights.{Le, none-le, le-trans, IsApplied, height, h
 use Rattle.hy_points.proofs.Courses.{fits, only-begun, only-set, asked-ended, set-ended, writing}
 use Rattle.hy_points.proofs.Placing.{IsMarkOf, IsReadMark, IsWriteMark, IsPlaced, mark-of, placed, written, has-read, written-before, write-above}
 use Rattle.hy_points.proofs.ByMoment.{stamp_of, reads_of, place_of, by-moment}
-use Rattle.hy_points.proofs.InOrder.{Follows, RespectsTime, by-stamp-in-time, IsWrittenIn, Finds, FindsLast, by-stamp-finds}
+use Rattle.hy_points.proofs.InOrder.{AreByStamp, Follows, RespectsTime, by-stamp-in-time, IsWrittenIn, Finds, FindsLast, by-stamp-finds}
 use Rattle.hy_points.proofs.Listing.{IsIn, in-contains, in-map, in-picked, in-sorted, all-map, all-picked, AllPairs, pairs-picked, pairs-sorted, distinct-map}
 
 before-stamp : (op : ℕ) (stamp : Timestamp) (o : Option ℕ) → (mark_before op stamp o).stamp ≡ stamp
@@ -43,22 +43,22 @@ before-op op stamp (Some p) = refl
 
 -- a mark by its sort
 module _ (log : List Point) (key : List ℕ) (begun : Beginning) (m : Mark) where
-  read-stamp : (r : IsReadMark log begun m) → m.stamp ≡ r.ask.found
+  pub read-stamp : (r : IsReadMark log begun m) → m.stamp ≡ r.ask.found
   read-stamp r = ap (λ (x : Mark). x.stamp) r.is
 
-  read-place : (r : IsReadMark log begun m) → m.place ≡ r.ask.place
+  pub read-place : (r : IsReadMark log begun m) → m.place ≡ r.ask.place
   read-place r = ap (λ (x : Mark). x.place) r.is
 
-  read-reads : IsReadMark log begun m → m.reads ≡ true
+  pub read-reads : IsReadMark log begun m → m.reads ≡ true
   read-reads r = ap (λ (x : Mark). x.reads) r.is
 
-  write-stamp : (w : IsWriteMark log key begun m) → m.stamp ≡ w.set.stamp
+  pub write-stamp : (w : IsWriteMark log key begun m) → m.stamp ≡ w.set.stamp
   write-stamp w = elim w.is [
     | inl applied ↦ ap (λ (x : Mark). x.stamp) applied.1
     | inr refused ↦ ap (λ (x : Mark). x.stamp) refused.2 ∙ before-stamp m.op w.set.stamp (overwriting log key w.set.stamp)
   ]
 
-  write-reads : IsWriteMark log key begun m → m.reads ≡ false
+  pub write-reads : IsWriteMark log key begun m → m.reads ≡ false
   write-reads w = elim w.is [
     | inl applied ↦ ap (λ (x : Mark). x.reads) applied.1
     | inr refused ↦ ap (λ (x : Mark). x.reads) refused.2 ∙ before-reads m.op w.set.stamp (overwriting log key w.set.stamp)
@@ -139,7 +139,7 @@ module _ (log : List Point) (atomic : IsAtomicLog log) (once : AsksOnce log) (ke
   unfolding marks_of
   are-marks = all-picked (IsMarkOf log key) (point_mark log key) log (λ place point m there is. (mark-of log atomic key place point m there is).0)
 
-  abbrev AreOther : Mark → Mark → Type 0
+  abbrev pub AreOther : Mark → Mark → Type 0
   AreOther m n = m.op ≡ n.op → ⊥
 
   are-others : AllPairs AreOther (marks_of log key)
@@ -155,11 +155,20 @@ module _ (log : List Point) (atomic : IsAtomicLog log) (once : AsksOnce log) (ke
           let f : i ≡ j = ap (λ (x : Beginning). x.place) e in
           omega (arith, less, f))
 
-  abbrev in_order : List Mark
+  abbrev pub in_order : List Mark
   in_order = sorted_by moment_cmp (marks_of log key)
 
-  sorted-marks : AllByRecursion (IsMarkOf log key) in_order
+  pub sorted-marks : AllByRecursion (IsMarkOf log key) in_order
   sorted-marks = all-sorted moment_cmp moment_total (IsMarkOf log key) (marks_of log key) are-marks
+
+  pub sorted-others : AllPairs AreOther in_order
+  sorted-others = pairs-sorted moment_cmp AreOther (λ x y other same. other (sym same)) (marks_of log key) are-others
+
+  -- they are in order by timestamp
+  pub by-stamp : AreByStamp stamp_of reads_of place_of in_order
+  by-stamp =
+      by-moment (is_of_key log key) log in_order (all-each (IsMarkOf log key) (IsPlaced (is_of_key log key) log) in_order (placed log atomic once key) sorted-marks)
+      (sorted-ordered moment_cmp moment_total (marks_of log key))
 
   -- a read found no record, or what a listed write wrote
   finds : (m : Mark) → IsMarkOf log key m → Finds stamp_of reads_of place_of no_stamp in_order m
@@ -203,10 +212,10 @@ module _ (log : List Point) (atomic : IsAtomicLog log) (once : AsksOnce log) (ke
 
   -- ---- the law, part by part
 
-  complete : (op : ℕ) → IsListed log key op → Contains (map op_of in_order) op
-  complete op is =
+  pub listed-in : (op : ℕ) → IsListed log key op → IsIn (map op_of in_order) op
+  listed-in op is =
       let m = marked is.begun.act is.is_begun refl is.is_listed in
-      subst (Contains (map op_of in_order)) m.2 (in-contains (map op_of in_order) m.0.op (in-map op_of in_order m.0 (in-sorted moment_cmp (marks_of log key) m.0 (listed op is.begun m.0 is.is_begun (key_eq-true is.begun.key key is.is_of) m.1))))
+      subst (IsIn (map op_of in_order)) m.2 (in-map op_of in_order m.0 (in-sorted moment_cmp (marks_of log key) m.0 (listed op is.begun m.0 is.is_begun (key_eq-true is.begun.key key is.is_of) m.1)))
     where
       write-marked : (o : Option Setting) → took_effect (has_ended log op) o ≡ true → (m : Mark) × (write_mark log key op o ≡ Some m) × (m.op ≡ op)
       write-marked None e = cc
@@ -293,12 +302,10 @@ module _ (log : List Point) (atomic : IsAtomicLog log) (once : AsksOnce log) (ke
   pub orders-log : OrdersLog log key (linearization_of log key)
   unfolding linearization_of
   orders-log =
-      let are-placed = all-each (IsMarkOf log key) (IsPlaced (is_of_key log key) log) in_order (placed log atomic once key) sorted-marks in
-      let by-stamp = by-moment (is_of_key log key) log in_order are-placed (sorted-ordered moment_cmp moment_total (marks_of log key)) in
       record {
-        complete = complete;
+        complete = λ op is. in-contains (map op_of in_order) op (listed-in op is);
         members = all-map (IsListed log key) op_of in_order (all-each (IsMarkOf log key) (λ m. IsListed log key m.op) in_order member sorted-marks);
-        distinct = distinct-map op_of in_order (pairs-sorted moment_cmp AreOther (λ x y other same. other (sym same)) (marks_of log key) are-others);
+        distinct = distinct-map op_of in_order sorted-others;
         real_time = keeps-time in_order (by-stamp-in-time stamp_of reads_of place_of (came log) (IsMarkOf log key) in_order follows sorted-marks by-stamp);
         reads = finds-writes no_stamp in_order sorted-marks
             (by-stamp-finds stamp_of reads_of place_of no_stamp in_order by-stamp (all-each (IsMarkOf log key) (λ m. Le no_stamp m.stamp) in_order (λ m of. none-le m.stamp) sorted-marks) (marks-find in_order sorted-marks));

@@ -1,9 +1,9 @@
 -- The points of runs, in the order of their steps, are an atomic log in which no operation reads twice.
-use Rattle.std.proofs.Common.{◌≡◌, ℕ, zero, suc, ◌+◌, ◌-◌, ◌<◌, ◌≤◌, Bool, true, false, cond, List, [], ◌∷◌, ◌++◌, length, map, take, Option, Some, None, is_some, refl, sym, ap, subst, ◌∙◌, inl, inr, arith}
-use Rattle.std.specs.Prelude.{◌⊎◌, ◌==◌, ◌&&◌}
-use Rattle.std.specs.List.{AllByRecursion, slice_get, filter_map}
+use Rattle.std.proofs.Common.{◌≡◌, ℕ, zero, suc, ◌+◌, ◌-◌, ◌<◌, ◌≤◌, Bool, true, false, List, [], ◌∷◌, ◌++◌, map, take, Option, Some, None, is_some, refl, sym, ap, subst, ◌∙◌, inl, inr, arith}
+use Rattle.std.specs.Prelude.{◌⊎◌}
+use Rattle.std.specs.List.{AllByRecursion, slice_get}
 use Rattle.std.specs.Option.{option_map_or}
-use Rattle.std.proofs.lemmas.Bool.{both_ways, cases_lt}
+use Rattle.std.proofs.lemmas.Bool.{cases_lt}
 use Rattle.std.proofs.lemmas.List.{append_assoc, append-nil}
 use Rattle.std.proofs.lemmas.Option.{none-some, same_Some}
 use Rattle.hy_record.specs.Key.{key_eq}
@@ -15,32 +15,32 @@ use Rattle.hy_points.specs.declared.point.Point.{Point}
 use Rattle.hy_points.specs.declared.point.Point.TheVariants.{Begin, Ask, Set, End}
 use Rattle.hy_points.specs.declared.telling.Asking.{Asking}
 use Rattle.hy_points.specs.declared.telling.Setting.{Setting}
-use Rattle.hy_points.specs.Lookups.{Beginning, beginning_at, asking_at, setting_at, ending_at, first_from, beginning, asking, last_asking, setting, ending, has_ended, is_of_key}
-use Rattle.hy_points.specs.Atomic.{Continues, Fits, FitsBegin, FitsAsk, FitsSet, FitsEnd, IsRunning, MayEnd, IsAtomicLog, AsksAnew, AsksOnce, logged_stamp, greatest_stamp, applied_stamp, no_stamp, writes}
-use Rattle.hy_points.specs.Runs.{Reading, Writing, Run, IsPointOf, MayReturn, ReadsWell, WritesWell, IsRaised, AreRuns}
+use Rattle.hy_points.specs.Lookups.{Beginning, beginning_at, asking_at, setting_at, ending_at, beginning, asking, last_asking, setting, ending, has_ended, is_of_key}
+use Rattle.hy_points.specs.Atomic.{Continues, Fits, FitsBegin, FitsAsk, FitsSet, FitsEnd, IsRunning, MayEnd, IsAtomicLog, AsksAnew, AsksOnce, logged_stamp, writes}
+use Rattle.hy_points.specs.Runs.{Reading, Writing, Run, IsPointOf, MayReturn, AreRuns}
 use Rattle.hy_points.proofs.Listing.{IsIn}
-use Rattle.hy_points.proofs.Places.{Tells, first-upto, front-at, at-front, begun-there, asked-there, set-there, ended-there, continues-front, last-first}
+use Rattle.hy_points.proofs.Places.{first-upto, front-at, at-front, begun-there, asked-there, set-there, ended-there, continues-front, last-first}
 use Rattle.hy_points.proofs.Courses.{eqb-same}
-use Rattle.hy_points.proofs.Heights.{Le, none-le, le-both, IsApplied, height_of, above-all, from-one}
+use Rattle.hy_points.proofs.Heights.{Le, none-le, le-both, height_of, above-all, from-one}
 
 -- ---- lists
 
-in-at : {A : Type 0} (xs : List A) (x : A) → IsIn xs x → (i : ℕ) × (slice_get xs i ≡ Some x)
+pub in-at : {A : Type 0} (xs : List A) (x : A) → IsIn xs x → (i : ℕ) × (slice_get xs i ≡ Some x)
 in-at [] x is = absurd is
 in-at (first ∷ others) x (inl is) = (0, ap Some is)
 in-at (first ∷ others) x (inr later) = (let at = in-at others x later in (suc at.0, at.1))
 
-at-in : {A : Type 0} (xs : List A) (i : ℕ) (x : A) → slice_get xs i ≡ Some x → IsIn xs x
+pub at-in : {A : Type 0} (xs : List A) (i : ℕ) (x : A) → slice_get xs i ≡ Some x → IsIn xs x
 at-in [] i x is = absurd (none-some x is)
 at-in (first ∷ others) zero x is = inl (same_Some first x is)
 at-in (first ∷ others) (suc i) x is = inr (at-in others i x is)
 
-map-at : {A B : Type 0} (f : A → B) (xs : List A) (i : ℕ) (x : A) → slice_get xs i ≡ Some x → slice_get (map f xs) i ≡ Some (f x)
+pub map-at : {A B : Type 0} (f : A → B) (xs : List A) (i : ℕ) (x : A) → slice_get xs i ≡ Some x → slice_get (map f xs) i ≡ Some (f x)
 map-at f [] i x is = absurd (none-some x is)
 map-at f (first ∷ others) zero x is = ap Some (ap f (same_Some first x is))
 map-at f (first ∷ others) (suc i) x is = map-at f others i x is
 
-of-map : {A B : Type 0} (f : A → B) (xs : List A) (i : ℕ) (y : B) → slice_get (map f xs) i ≡ Some y → (x : A) × (slice_get xs i ≡ Some x) × (f x ≡ y)
+pub of-map : {A B : Type 0} (f : A → B) (xs : List A) (i : ℕ) (y : B) → slice_get (map f xs) i ≡ Some y → (x : A) × (slice_get xs i ≡ Some x) × (f x ≡ y)
 of-map f [] i y is = absurd (none-some y is)
 of-map f (first ∷ others) zero y is = (first, refl, same_Some (f first) y is)
 of-map f (first ∷ others) (suc i) y is = of-map f others i y is
@@ -61,7 +61,7 @@ false-is : (b : Bool) → (b ≡ true → ⊥) → b ≡ false
 false-is false never = refl
 false-is true never = absurd (never refl)
 
-some-of : {A : Type 0} (o : Option A) → is_some o ≡ true → (x : A) × (o ≡ Some x)
+pub some-of : {A : Type 0} (o : Option A) → is_some o ≡ true → (x : A) × (o ≡ Some x)
 some-of None is = cc
 some-of (Some x) is = (x, refl)
 
@@ -76,7 +76,7 @@ module _ {M : Type 0} (step : M → ℕ) where
   all-at m (first ∷ others) zero n all there = subst (λ (x : M). step m < step x) (same_Some first n there) all.0
   all-at m (first ∷ others) (suc i) n all there = all-at m others i n all.1 there
 
-  rising-at : (ms : List M) (i j : ℕ) (m n : M) → AreRising ms → slice_get ms i ≡ Some m → slice_get ms j ≡ Some n → i < j → step m < step n
+  pub rising-at : (ms : List M) (i j : ℕ) (m n : M) → AreRising ms → slice_get ms i ≡ Some m → slice_get ms j ≡ Some n → i < j → step m < step n
   rising-at [] i j m n rising first second less = absurd (none-some m first)
   rising-at (x ∷ xs) i zero m n rising first second less = absurd (omega (arith, less))
   rising-at (x ∷ xs) zero (suc j) m n rising first second less = subst (λ (y : M). step y < step n) (same_Some x m first) (all-at x xs j n rising.0 second)

@@ -1,5 +1,5 @@
 -- What steps do, and those of an operation that is run to its end.
-use Rattle.std.proofs.Common.{◌≡◌, ℕ, zero, suc, ◌+◌, ◌-◌, ◌<◌, ◌≤◌, ◌^◌, Bool, true, false, ◌&&◌, ◌||◌, ◌==◌, not, nat_le, List, [], ◌∷◌, ◌++◌, map, length, Option, Some, None, Result, Ok, Err, is_some, cond, refl, sym, ap, subst, ◌∙◌, inl, inr, add-zero, ◌⊎◌, arith}
+use Rattle.std.proofs.Common.{◌≡◌, ℕ, zero, suc, ◌+◌, ◌-◌, ◌<◌, ◌≤◌, ◌^◌, Bool, true, false, ◌&&◌, ◌||◌, ◌==◌, not, nat_le, List, [], ◌∷◌, length, Option, Some, None, Result, Ok, Err, is_some, cond, refl, sym, ap, subst, ◌∙◌, inl, inr, add-zero, ◌⊎◌, arith}
 use Rattle.std.specs.Option.{option_map}
 use Rattle.std.specs.List.{list_any}
 use Rattle.std.proofs.Math.Nat.{sub-zero}
@@ -9,30 +9,27 @@ use Rattle.std.proofs.lemmas.Bool.{cases_Bool, le-leb, leb-true, eq-eqb, false�
 use Rattle.hy_base.specs.declared.failure.NoMemory.{NoMemory}
 use Rattle.hy_record.specs.declared.action.Action.{Action}
 use Rattle.hy_record.specs.declared.message.MetaAsk.{MetaAsk}
-use Rattle.hy_record.specs.declared.turn.Cue.{Cue}
 use Rattle.hy_trace.specs.declared.step.Step.{Step}
 use Rattle.hy_trace.specs.declared.step.Step.TheVariants as steps
 use Rattle.hy_trace.specs.declared.step.TheConstants.{MAX_GIVES}
-use Rattle.hy_trace.specs.Deeds.{Params, Deed, Joined, Began, Handed, Served, Granted, Stopped, Nothing, Start, joined, begun, stops, is_joined, is_up, start_of, reply_of}
+use Rattle.hy_trace.specs.Deeds.{Params, Deed, Joined, Began, Handed, Served, Granted, Stopped, Nothing, joined, begun, stops, is_joined, is_up, reply_of}
 use Rattle.hy_trace.specs.Doing.{goes_on, with_gives, with_do}
 use Rattle.hy_trace.specs.Messages.{Message, messages_of, message_at, step_of}
 use Rattle.hy_trace.specs.Schedule.{deed_of, delivery, is_free, trace_of}
 use Rattle.hy_trace.specs.Trace.{IsTrace}
 use Rattle.hy_trace.proofs.Steps.{schedule-trace}
-use Rattle.hy_log.specs.declared.post.Post.{Post}
 use Rattle.hy_log.specs.Kept.{Posted}
 use Rattle.hy_log.specs.declared.effects.Effects.{Effects}
 use Rattle.hy_log.specs.declared.log.Log.{Log}
-use Rattle.hy_log.specs.declared.log.Started.{Started}
 use Rattle.hy_world.specs.declared.machines.Machines.{Machines}
 use Rattle.hy_world.specs.declared.simulation.Simulation.{Simulation}
 use Rattle.hy_log.specs.Effects.{AreEffects, post_of}
-use Rattle.hy_log.specs.Log.{Keeps, posted, posted_at, posted_of, started_of}
+use Rattle.hy_log.specs.Log.{Keeps, posted, posted_at, started_of}
 use Rattle.hy_sched.specs.declared.event.Event.{Event}
 use Rattle.hy_sched.specs.declared.event.Event.TheVariants as events
 use Rattle.hy_world.specs.declared.nodes.Nodes.{Nodes}
 use Rattle.hy_world.specs.Schedules.{first_step, steps_with}
-use Rattle.hy_world.specs.Nodes.{HasBegun, HasBegunIn, Does}
+use Rattle.hy_world.specs.Nodes.{HasBegun, Does}
 use Rattle.hy_world.specs.Machines.{MachinesStand, MachinesDo}
 use Rattle.hy_world.specs.World.{DoesBy, Replays, ReplaysBy}
 use Rattle.hy_log.proofs.Keeping.{posted-message, posted-count}

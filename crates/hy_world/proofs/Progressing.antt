@@ -1,11 +1,10 @@
 -- How far the operations of all clients are.
-use Rattle.std.proofs.Common.{◌≡◌, ◌≢◌, ℕ, ◌+◌, ◌-◌, ◌≤◌, ◌<◌, Bool, true, false, ◌&&◌, ◌==◌, not, List, [], ◌∷◌, ◌++◌, map, length, slice_index_or, Option, Some, None, is_some, cond, refl, sym, ap, subst, ◌∙◌, inl, inr, arith}
+use Rattle.std.proofs.Common.{◌≡◌, ℕ, ◌+◌, ◌-◌, ◌<◌, Bool, true, ◌&&◌, ◌==◌, not, List, [], ◌∷◌, ◌++◌, map, length, slice_index_or, Option, Some, None, is_some, cond, refl, sym, ap, subst, ◌∙◌, inl, inr, arith}
 use Rattle.std.specs.List.{range_with_len}
 use Rattle.std.specs.Option.{option_map}
 use Rattle.std.proofs.Math.Nat.{zero-add}
 use Rattle.std.proofs.lemmas.Bool.{cases_eq, cases_lt}
 use Rattle.std.proofs.lemmas.List.FromFn.{get_or-map-range_with_len, map-range_with_len_more}
-use Rattle.hy_record.specs.declared.action.Action.{Action}
 use Rattle.hy_record.specs.declared.action.Reply.{Reply}
 use Rattle.hy_protocol.specs.Operations.{replied}
 use Rattle.hy_protocol.specs.Progress as protocol
@@ -14,7 +13,6 @@ use Rattle.hy_operation.specs.declared.progress.Progress.{Progress}
 use Rattle.hy_client.specs.declared.client.Running.{Running}
 use Rattle.hy_client.specs.Clients.{running_of}
 use Rattle.hy_trace.specs.Deeds.{Params, Deed, Start, begun, joined, start_of, inputs_of, reply_of, reply_after}
-use Rattle.hy_sched.specs.declared.params.Params.{Params as StoreParams}
 use Rattle.hy_world.specs.declared.seat.Seat.{Seat}
 use Rattle.hy_world.specs.declared.nodes.Nodes.{Nodes}
 use Rattle.hy_world.specs.Nodes.{action_of, session_of, NodesStand}

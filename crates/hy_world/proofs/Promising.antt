@@ -1,10 +1,9 @@
 -- What holds of the trace of every schedule, as a world promises it.
-use Rattle.std.proofs.Common.{◌≡◌, ℕ, ◌≤◌, List, length, Option, Some, None, sym, ap, ◌∙◌}
+use Rattle.std.proofs.Common.{◌≡◌, ℕ, ◌≤◌, List, length, Option, Some, None, sym, ap}
 use Rattle.std.specs.Prelude.{IfSome}
 use Rattle.hy_base.specs.Shape.{IsShape}
 use Rattle.hy_record.specs.Clouds.{clouds_of}
 use Rattle.hy_protocol.specs.Operations.{key_of}
-use Rattle.hy_meta.specs.Service.{record_after}
 use Rattle.hy_order.specs.declared.held.Held.{Held}
 use Rattle.hy_trace.specs.declared.step.Step.{Step}
 use Rattle.hy_trace.specs.Deeds.{Params, served}

@@ -1,6 +1,5 @@
 -- The values of a schedule's puts consist of bytes.
-use Rattle.std.proofs.Common.{◌≡◌, ℕ, zero, suc, ◌+◌, ◌<◌, ◌≤◌, Bool, true, false, List, [], ◌∷◌, length, Option, Some, None, cond, refl, sym, ap, subst, inl, inr, arith}
-use Rattle.std.specs.Prelude.{slice_index}
+use Rattle.std.proofs.Common.{◌≡◌, ℕ, zero, suc, ◌+◌, ◌≤◌, Bool, true, false, List, [], ◌∷◌, length, Option, Some, None, cond, subst, inl, inr, arith}
 use Rattle.std.specs.List.{AllByRecursion}
 use Rattle.std.proofs.lemmas.Option.{none-some, same_Some}
 use Rattle.hex.specs.Hex.{IsBytes}
@@ -19,7 +18,7 @@ use Rattle.hy_sched.specs.Ranges.{IsTextEvent}
 use Rattle.hy_trace.specs.declared.step.Step.{Step}
 use Rattle.hy_trace.specs.declared.step.Step.TheVariants as steps
 use Rattle.hy_trace.specs.declared.step.TheConstants.{MAX_GIVES}
-use Rattle.hy_trace.specs.Deeds.{Params, Deed, Joined, Began, Handed, Served, Granted, Stopped, Nothing, Start, begun, joined, start_of, start_at, is_joined}
+use Rattle.hy_trace.specs.Deeds.{Params, Deed, Joined, Began, Handed, Served, Granted, Stopped, Nothing, Start, begun, start_of, start_at, is_joined}
 use Rattle.hy_trace.specs.Messages.{Message, Ask, Say, Request, Answer, messages_of, message_at, step_of}
 use Rattle.hy_trace.specs.Schedule.{awaited, hand, is_free, delivery, deed_of, trace_of}
 use Rattle.hy_trace.specs.Doing.{goes_on, with_gives, with_do}

@@ -1,13 +1,12 @@
 -- What clients do to their sessions, and what is known of them beside.
-use Rattle.std.proofs.Common.{◌≡◌, ◌≢◌, ℕ, ◌+◌, ◌≤◌, Bool, true, false, ◌&&◌, ◌||◌, ◌==◌, not, nat_lt, List, [], ◌∷◌, length, Option, Some, None, Result, Ok, Err, is_some, cond, refl, sym, ap, subst, ◌∙◌, inl, inr, arith}
-use Rattle.std.specs.Prelude.{IfSome, IsOkUnless}
+use Rattle.std.proofs.Common.{◌≡◌, ℕ, ◌+◌, ◌≤◌, Bool, true, false, ◌&&◌, ◌||◌, ◌==◌, not, List, ◌∷◌, length, Option, Some, None, Result, Ok, Err, is_some, cond, refl, sym, ap, ◌∙◌, inl, inr, arith}
+use Rattle.std.specs.Prelude.{IfSome}
 use Rattle.std.specs.Option.{option_map}
 use Rattle.std.proofs.lemmas.Bool.{cases_Bool, false≢true, ne_eqb, le-ltb}
 use Rattle.hy_base.specs.declared.limits.TheConstants.{MAX_VALUE}
 use Rattle.hy_record.specs.declared.action.Action.{Action}
 use Rattle.hy_record.specs.declared.action.Action.TheVariants as asked
 use Rattle.hy_record.specs.declared.turn.Cue.{Cue}
-use Rattle.hy_record.specs.declared.turn.Out.{Out}
 use Rattle.hy_protocol.specs.Inputs.{addresses}
 use Rattle.hy_protocol.specs.Operations.{key_of, replied}
 use Rattle.hy_protocol.specs.Progress.{Progress}

@@ -1,5 +1,5 @@
 -- What deeds do to the machines.
-use Rattle.std.proofs.Common.{◌≡◌, ℕ, ◌+◌, ◌≤◌, ◌<◌, ◌^◌, Bool, true, false, nat_lt, List, [], ◌∷◌, ◌++◌, map, length, slice_index_or, Option, Some, None, Result, Ok, Err, cond, refl, sym, ap, subst, ◌∙◌, inl, inr, arith}
+use Rattle.std.proofs.Common.{◌≡◌, ℕ, ◌+◌, ◌<◌, Bool, true, false, nat_lt, List, [], ◌∷◌, ◌++◌, map, length, Option, Some, None, Result, Ok, Err, cond, refl, sym, ap, subst, ◌∙◌, inl, inr, arith}
 use Rattle.std.proofs.Math.ListN.{get_or}
 use Rattle.std.proofs.lemmas.List.{length_push, get_or_append_left, get_or_push}
 use Rattle.std.proofs.lemmas.Bool.{cases_lt}
@@ -10,7 +10,7 @@ use Rattle.hy_record.specs.declared.message.MetaSay.{MetaSay}
 use Rattle.hy_record.specs.declared.cloud.CloudAsk.{CloudAsk}
 use Rattle.hy_record.specs.declared.turn.Cue.{Cue}
 use Rattle.hy_record.specs.declared.turn.Cue.TheVariants as cues
-use Rattle.hy_protocol.specs.Session.{Session, fresh_session}
+use Rattle.hy_protocol.specs.Session.{fresh_session}
 use Rattle.hy_meta.specs.Sessions.{next_session, sessions_after}
 use Rattle.hy_meta.specs.Meta.{service_answers}
 use Rattle.hy_meta.specs.declared.meta.SessionsFull.{SessionsFull}
@@ -19,10 +19,8 @@ use Rattle.hy_trace.specs.declared.step.Step.TheVariants as steps
 use Rattle.hy_trace.specs.Deeds.{Params, Deed, Joined, Served, Nothing, served, granted, joined}
 use Rattle.hy_trace.specs.Messages.{Message, Ask, Say, Request, Answer, sent_at}
 use Rattle.hy_trace.specs.Schedule.{delivery, hand, deed_of}
-use Rattle.hy_trace.specs.Trace.{IsTrace}
 use Rattle.hy_sched.specs.declared.params.Params.{Params as StoreParams}
 use Rattle.hy_world.specs.declared.seat.Seat.{Seat}
-use Rattle.hy_log.specs.declared.post.Post.{Post}
 use Rattle.hy_log.specs.declared.post.Post.TheVariants as posts
 use Rattle.hy_world.specs.declared.nodes.Nodes.{Nodes}
 use Rattle.hy_world.specs.declared.machines.Machines.{Machines}
@@ -30,7 +28,7 @@ use Rattle.hy_log.specs.declared.effects.Effects.{Effects}
 use Rattle.hy_log.specs.declared.effects.Updated.{Updated}
 use Rattle.hy_log.specs.Effects.{post_of, updated_by, AreEffects, AreNone}
 use Rattle.hy_world.specs.Seats.{StandsForSeat}
-use Rattle.hy_world.specs.Nodes.{addressee, session_of, NodesRun, NodesStand, Does}
+use Rattle.hy_world.specs.Nodes.{addressee, session_of, NodesRun, Does}
 use Rattle.hy_world.specs.Machines.{MachinesRun, MachinesStand, MachinesDo}
 use Rattle.hy_world.proofs.Sessions.{foreign-same, joined-foreign, served-foreign, nothing-foreign}
 use Rattle.hy_world.proofs.Standing.{Standing, standing-all, quietly, nothing-silent}

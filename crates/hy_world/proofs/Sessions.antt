@@ -1,22 +1,17 @@
 -- What deeds do to the session of a client.
-use Rattle.std.proofs.Common.{◌≡◌, ℕ, ◌+◌, ◌<◌, ◌≤◌, Bool, true, false, ◌&&◌, ◌||◌, ◌==◌, not, nat_le, List, [], ◌∷◌, map, Option, Some, None, is_some, cond, refl, sym, ap, ◌∙◌, eq-eqb}
+use Rattle.std.proofs.Common.{◌≡◌, ℕ, ◌+◌, Bool, true, false, ◌&&◌, ◌||◌, ◌==◌, not, nat_le, List, [], ◌∷◌, map, Option, Some, None, is_some, cond, refl, sym, ap, ◌∙◌, eq-eqb}
 use Rattle.std.specs.Option.{option_or}
 use Rattle.std.specs.List.{list_any}
 use Rattle.hy_record.specs.declared.action.Action.{Action}
 use Rattle.hy_record.specs.declared.turn.Cue.{Cue}
-use Rattle.hy_record.specs.declared.turn.Out.{Out}
-use Rattle.hy_record.specs.declared.action.Reply.{Reply}
 use Rattle.hy_record.specs.declared.cloud.CloudAsk.{CloudAsk}
 use Rattle.hy_record.specs.declared.message.MetaAsk.{MetaAsk}
-use Rattle.hy_protocol.specs.Inputs.{has_of}
-use Rattle.hy_protocol.specs.Operations.{key_of, replied, sends_of}
 use Rattle.hy_protocol.specs.Session.{Session, takes, takes_by, session_after, turn_sends, turn_reply, sends_by, reply_by, session_stopped, session_invoked, is_idle}
 use Rattle.hy_trace.specs.Deeds.{Params, Deed, Joined, Began, Handed, Served, Granted, Stopped, Nothing, Start, inputs_of, start_of, start_at, begun, joined, stops, is_up, reply_after, reply_of}
 use Rattle.hy_trace.specs.Messages.{Message, sent_at, sent_after, message_of}
 use Rattle.hy_trace.specs.Schedule.{awaited, hand, is_free}
-use Rattle.hy_log.specs.declared.effects.Heard.{Heard}
 use Rattle.hy_log.specs.declared.effects.Return.{Return}
-use Rattle.hy_log.specs.Effects.{return_at, return_with, heard_at, heard_with}
+use Rattle.hy_log.specs.Effects.{return_at, return_with, heard_at}
 use Rattle.hy_world.specs.Seats.{heard_by}
 use Rattle.hy_world.specs.Nodes.{session_of, action_of}
 

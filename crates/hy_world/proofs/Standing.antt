@@ -1,13 +1,11 @@
 -- What deeds do to clients and clouds.
-use Rattle.std.proofs.Common.{◌≡◌, ◌≢◌, ℕ, ◌+◌, ◌-◌, ◌^◌, ◌<◌, ◌≤◌, Bool, true, false, ◌&&◌, ◌||◌, ◌==◌, not, nat_le, nat_lt, List, [], ◌∷◌, ◌++◌, map, length, slice_index_or, ◌⊎◌, Option, Some, None, Result, Ok, Err, is_some, cond, refl, sym, ap, subst, ◌∙◌, inl, inr, arith, get_or-set_same, get_or-set_other}
+use Rattle.std.proofs.Common.{◌≡◌, ◌≢◌, ℕ, ◌+◌, ◌-◌, ◌^◌, ◌<◌, ◌≤◌, Bool, true, false, ◌&&◌, ◌==◌, not, nat_le, List, [], ◌∷◌, map, length, slice_index_or, ◌⊎◌, Option, Some, None, Result, Ok, Err, is_some, cond, refl, sym, ap, subst, ◌∙◌, inl, inr, arith, get_or-set_same, get_or-set_other}
 use Rattle.std.proofs.Math.ListN.{set, get_or, length-set}
 use Rattle.std.specs.List.{All}
-use Rattle.std.proofs.lemmas.List.{length_push, get_or_append_left, get_or_push}
 use Rattle.std.proofs.lemmas.Bool.{cases_eq, cases_lt, cases_Bool, false≢true, ne_eqb, le-leb, lt-leb, eq-eqb}
 use Rattle.hy_base.specs.declared.failure.NoMemory.{NoMemory}
 use Rattle.hy_base.specs.Shape.{IsShape, cloud_count}
 use Rattle.hy_record.specs.declared.action.Action.{Action}
-use Rattle.hy_record.specs.declared.action.Reply.{Reply}
 use Rattle.hy_record.specs.declared.cloud.CloudAsk.{CloudAsk}
 use Rattle.hy_record.specs.declared.cloud.CloudReply.{CloudReply}
 use Rattle.hy_record.specs.declared.cloud.CloudSay.{CloudSay}
@@ -18,24 +16,23 @@ use Rattle.hy_record.specs.declared.turn.Out.{Out}
 use Rattle.hy_record.specs.declared.turn.Turn.{Turn}
 use Rattle.hy_protocol.specs.Cloud.{cloud_answer}
 use Rattle.hy_protocol.specs.Operations.{sends_of}
-use Rattle.hy_protocol.specs.Session.{Session, fresh_session, session_stopped, session_invoked, invoked_sends, is_idle, session_after, session_turn, turn_sends, turn_reply, takes, is_running, reply_by}
+use Rattle.hy_protocol.specs.Session.{Session, session_stopped, session_invoked, invoked_sends, is_idle, session_after, session_turn, turn_sends, turn_reply, takes, is_running, reply_by}
 use Rattle.hy_cloud.specs.declared.cloud.Cloud.{Cloud}
 use Rattle.hy_cloud.specs.Objects.{StandsForWishes}
 use Rattle.hy_trace.specs.declared.step.Step.TheVariants as steps
 use Rattle.hy_trace.specs.Deeds.{Params, Deed, Joined, Began, Handed, Served, Granted, Stopped, Nothing, Start, served, granted, joined, begun, start_of, inputs_of, reply_of, reply_after}
-use Rattle.hy_trace.specs.Messages.{Message, Ask, Say, Request, Answer, sent_at, message_of}
+use Rattle.hy_trace.specs.Messages.{Request, sent_at, message_of}
 use Rattle.hy_trace.specs.Schedule.{delivery, hand, is_free, deed_of}
 use Rattle.hy_trace.specs.Trace.{IsTrace}
 use Rattle.hy_trace.proofs.Steps.{free-idle}
 use Rattle.hy_sched.specs.declared.params.Params.{Params as StoreParams}
-use Rattle.hy_log.specs.declared.post.Post.{Post}
 use Rattle.hy_log.specs.declared.post.Post.TheVariants as posts
 use Rattle.hy_world.specs.declared.seat.Seat.{Seat}
 use Rattle.hy_world.specs.declared.nodes.Nodes.{Nodes}
 use Rattle.hy_log.specs.declared.effects.Effects.{Effects}
 use Rattle.hy_log.specs.declared.effects.Heard.{Heard}
 use Rattle.hy_world.specs.Schedules.{is_liar_of, params_of}
-use Rattle.hy_log.specs.Effects.{post_of, return_at, return_with, beginning_at, heard_at, updated_at, AreEffects, AreNone}
+use Rattle.hy_log.specs.Effects.{post_of, return_with, beginning_at, updated_at, AreNone}
 use Rattle.hy_world.specs.Seats.{StandsForSeat, heard_by}
 use Rattle.hy_world.specs.Nodes.{session_of, action_of, NodesRun, NodesStand, IsQuiet, IsDone, Does, HasBegunIn}
 use Rattle.hy_world.proofs.Sessions.{IsForeign, foreign-same, nothing-foreign, granted-foreign, hand-takes, hand-nobody, hand-sends, hand-replies, hand-hears, hand-session, hand-foreign, stopped-foreign, began-foreign, stop-session, begin-session, free-same, free-nobody}

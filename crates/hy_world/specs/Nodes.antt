@@ -1,5 +1,5 @@
 -- What the clients and clouds of the simulator stand for, after a trace.
-use Rattle.std.specs.Prelude.{◌≡◌, ℕ, ◌+◌, ◌<◌, ◌≤◌, ◌^◌, true, List, [], ◌∷◌, length, slice_index_or, Option, Some, None, Result, IfOk}
+use Rattle.std.specs.Prelude.{◌≡◌, ℕ, ◌+◌, ◌<◌, ◌≤◌, ◌^◌, true, List, ◌∷◌, length, slice_index_or, Option, Some, None, Result, IfOk}
 use Rattle.std.specs.List.{list_any}
 use Rattle.hy_base.specs.declared.failure.NoMemory.{NoMemory}
 use Rattle.hy_base.specs.Shape.{IsShape}

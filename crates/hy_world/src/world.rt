@@ -40,6 +40,7 @@ impl<M: Meta + Drop> WorldOver<M> {
     ghost use Rattle.hy_trace.specs.History.{history_of};
     ghost use Rattle.hy_trace.specs.Report.{report_of};
     ghost use Rattle.hy_log.specs.Points.{points_of};
+    ghost use Rattle.hy_log.specs.RunOrders.{OrdersRun};
     ghost use Rattle.hy_points.specs.Atomic.{IsAtomicLog, AsksOnce};
     ghost use Rattle.hy_world.specs.Promises.{StaysRetrievable, StarvesOnlyOld, RefreshesAtMost, DeletesOnlyOld};
     ghost use Rattle.hy_world.specs.World.{StandsForSteps, StandsForSome, IsBroken, events_taken};
@@ -139,13 +140,17 @@ impl<M: Meta + Drop> WorldOver<M> {
     }
 
     /// The moments at which the puts, gets and deletes began, read, wrote and returned, in the order
-    /// of their steps: an atomic log in which no operation reads twice.
+    /// of their steps: an atomic log in which no operation reads twice, by which the orders are those
+    /// of the report.
     pub fn points(&self, alloc: Global) -> Result<PointLog, NoMemory>
         ensures points { IfOk result (λ points. (p : TraceParams) (steps : List Step) →
             StandsForSteps M.served M.given p steps self.now →
             points ≡ points_of p (trace_of p steps)) }
         ensures atomic { StandsForSome M.served M.given self.now → IfOk result IsAtomicLog }
         ensures once { StandsForSome M.served M.given self.now → IfOk result AsksOnce }
+        ensures order { IfOk result (λ points. (p : TraceParams) (steps : List Step) →
+            StandsForSteps M.served M.given p steps self.now →
+            OrdersRun p (trace_of p steps) points) }
     {
         let points = self.simulation.log.points(alloc)?;
         Ok(points)

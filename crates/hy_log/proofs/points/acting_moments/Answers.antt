@@ -1,5 +1,5 @@
 use Rattle.std.proofs.Common.{◌≡◌, [], ◌∷◌, ◌++◌, take, ap, ◌∙◌, arith}
-use Rattle.hy_log.specs.Points.{those_told, begin_moment, ask_moment, set_moment, end_moment}
+use Rattle.hy_log.specs.Points.{those_told}
 use Rattle.hy_log.proofs.Timing.{told-same}
 use Rattle.hy_log.proofs.points.acting_moments.Goals as goal
 

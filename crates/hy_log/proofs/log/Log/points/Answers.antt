@@ -1,11 +1,9 @@
-use Rattle.std.proofs.Common.{◌≡◌, List, map, sym, ap, subst, ◌∙◌}
-use Rattle.hy_points.specs.declared.point.Point.{Point}
+use Rattle.std.proofs.Common.{map, sym, ap, subst, ◌∙◌}
 use Rattle.hy_points.specs.Atomic.{IsAtomicLog, AsksOnce}
-use Rattle.hy_trace.specs.Deeds.{Params, Deed}
-use Rattle.hy_trace.specs.Trace.{IsTrace}
-use Rattle.hy_log.specs.Log.{Keeps}
-use Rattle.hy_log.specs.Points.{point_at, points_of}
+use Rattle.hy_log.specs.Points.{point_at}
+use Rattle.hy_log.specs.RunOrders.{OrdersRun}
 use Rattle.hy_log.proofs.Timing.{told-points}
+use Rattle.hy_log.proofs.TraceKeys.{orders-run}
 use Rattle.hy_log.proofs.TracePoints.{points-atomic, points-once}
 use Rattle.hy_log.proofs.log.Log.points.Goals as goal
 
@@ -20,3 +18,6 @@ returns-clause-atomic c = λ p t trace keeps. subst IsAtomicLog (sym (returns-cl
 
 pub returns-clause-once : goal.returns-clause-once
 returns-clause-once c = λ p t trace keeps. subst AsksOnce (sym (returns-clause-points c p t trace keeps)) (points-once p t trace)
+
+pub returns-clause-order : goal.returns-clause-order
+returns-clause-order c = λ p t trace keeps. subst (OrdersRun p t) (sym (returns-clause-points c p t trace keeps)) (orders-run p t trace)

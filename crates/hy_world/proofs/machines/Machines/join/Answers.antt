@@ -1,4 +1,4 @@
-use Rattle.std.proofs.Common.{rules, arith}
+use Rattle.std.proofs.Common.{arith}
 use Rattle.hy_world.proofs.Serving.{join-in, join-full, gave}
 use Rattle.hy_world.proofs.machines.Machines.join.Goals as goal
 

@@ -1,4 +1,3 @@
-use Rattle.std.proofs.Common.{sym}
 use Rattle.hy_world.proofs.Seated.{begun-idle, busy-idle, sits-invoked, sits-same}
 use Rattle.hy_world.proofs.seat.Seat.begin.Goals as goal
 

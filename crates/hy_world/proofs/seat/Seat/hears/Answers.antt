@@ -2,13 +2,11 @@ use Rattle.std.proofs.Common.{◌≡◌, ℕ, Option, Some, None, true, false, B
 use Rattle.std.specs.Option.{option_map}
 use Rattle.hy_record.specs.Record.{RecordValue}
 use Rattle.hy_record.specs.Stamp.{Timestamp}
-use Rattle.hy_record.specs.declared.turn.Cue.{Cue}
 use Rattle.hy_meta.specs.Service.{stamp_of_record}
 use Rattle.hy_protocol.specs.Inputs.{has_of}
-use Rattle.hy_protocol.specs.Session.{Session, takes}
+use Rattle.hy_protocol.specs.Session.{takes}
 use Rattle.hy_log.specs.declared.effects.Heard.{Heard}
 use Rattle.hy_log.specs.Effects.{heard_with}
-use Rattle.hy_world.specs.Seats.{heard_by}
 use Rattle.hy_world.proofs.seat.Seat.hears.Goals as goal
 
 told : (client op made : ℕ) (stamp : Timestamp) (has : Option (Option RecordValue)) → Some stamp ≡ option_map stamp_of_record has → Some (record { client = client; op = op; stamp = stamp; made = made }) ≡ heard_with client op made has

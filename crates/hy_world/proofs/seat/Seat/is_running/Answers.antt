@@ -1,4 +1,4 @@
-use Rattle.std.proofs.Common.{◌∙◌, ap, sym, Option}
+use Rattle.std.proofs.Common.{◌∙◌, ap, Option}
 use Rattle.std.specs.Prelude.{is_some}
 use Rattle.hy_client.specs.declared.client.Running.{Running}
 use Rattle.hy_world.proofs.Seated.{running-is}

@@ -1,4 +1,4 @@
-use Rattle.std.proofs.Common.{◌∙◌, sym, ap}
+use Rattle.std.proofs.Common.{◌∙◌, sym}
 use Rattle.hy_world.proofs.Seated.{takes-stopped, takes-idle, takes-own, takes-unasked}
 use Rattle.hy_world.proofs.seat.Seat.takes.Goals as goal
 

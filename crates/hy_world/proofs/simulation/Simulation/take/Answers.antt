@@ -1,4 +1,4 @@
-use Rattle.std.proofs.Common.{subst, sym, List, ◌∷◌, arith}
+use Rattle.std.proofs.Common.{subst, sym, List, arith}
 use Rattle.hy_trace.specs.declared.step.Step.{Step}
 use Rattle.hy_sched.specs.declared.event.Event.{Event}
 use Rattle.hy_world.specs.Schedules.{steps_with}

@@ -1,4 +1,4 @@
-use Rattle.std.proofs.Common.{rules, subst, sym, List, ◌∷◌}
+use Rattle.std.proofs.Common.{rules, subst, List, ◌∷◌}
 use Rattle.hy_trace.specs.declared.step.Step.{Step}
 use Rattle.hy_trace.specs.declared.step.Step.TheVariants as steps
 use Rattle.hy_sched.specs.declared.event.Event.{Event}

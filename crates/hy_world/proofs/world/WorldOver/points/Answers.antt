@@ -12,3 +12,6 @@ returns-clause-atomic g c = λ some.
 pub returns-clause-once : goal.returns-clause-once
 returns-clause-once g c = λ some.
     c.in_ok-points.ensures.once some.0 (trace_of some.0 some.1) (schedule-trace some.0 some.1) some.2.log_keeps
+
+pub returns-clause-order : goal.returns-clause-order
+returns-clause-order g c = λ p steps r. c.in_ok-points.ensures.order p (trace_of p steps) (schedule-trace p steps) r.log_keeps
