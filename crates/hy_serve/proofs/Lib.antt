@@ -1,5 +1,15 @@
+pub mod Results
+pub mod Tables
 pub mod Reading
 pub mod Lines
 pub mod Sendable
 pub mod Reacting
 pub mod Serving
+pub mod MetaLines
+pub mod MetaLetters
+pub mod MetaStands
+pub mod MetaWeights
+pub mod MetaSends
+pub mod MetaMaking
+pub mod MetaReading
+pub mod MetaServing

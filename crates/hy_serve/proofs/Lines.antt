@@ -1,9 +1,8 @@
 -- Lemmas on the connections that a cloud's server keeps.
-use Rattle.std.proofs.Common.{rules, ◌≡◌, ◌==◌, ℕ, Bool, true, false, List, [], Option, Some, None, refl, sym, ap, subst, ◌∙◌, cond, eq-eqb}
+use Rattle.std.proofs.Common.{rules, ◌≡◌, ◌==◌, ℕ, true, false, List, [], Option, Some, None, refl, sym, ap, subst, ◌∙◌, eq-eqb}
 use Rattle.std.proofs.lemmas.Bool.{cond-true, cond-false}
 use Rattle.std.specs.Prelude.{if◌then◌else◌}
 use Rattle.std.specs.Ordering.{nat_cmp}
-use Rattle.std.specs.Cmp.{unsigned_tied}
 use Rattle.std.specs.BTreeMap as tree
 use Rattle.std.specs.BTreeMap.{BTreeMap}
 use Rattle.std.specs.Option.{IsSome, is_some}
@@ -16,6 +15,7 @@ use Rattle.hy_serve.specs.declared.cloud_lines.Reading.TheVariants.{Partial}
 use Rattle.hy_serve.specs.declared.cloud_server.CloudServer.{CloudServer}
 use Rattle.hy_serve.specs.CloudRole.{Line, unopened, over, opened, closed}
 use Rattle.hy_serve.specs.CloudStanding.{HeldLine, line_at, IsWaiting, HoldsLine, SetsLine, ReadsLine, ReadsOn, ReadsAt}
+use Rattle.hy_serve.proofs.Tables.{put-at}
 
 abbrev pub Lines : Type 0
 Lines = BTreeMap ℕ (Option (Progress AskHead))
@@ -27,8 +27,7 @@ with_lines server lines = record { lines = lines; cloud = server.cloud }
 pub written : (old : CloudServer) (lines : Lines) (conn : ℕ) (held : Option (Progress AskHead)) → tree.UpdatesBy nat_cmp (nat_cmp conn) old.lines lines (Some held)
     → (c : ℕ) → line_at (with_lines old lines) c ≡ (if conn == c then Some held else line_at old c)
 unfolding line_at
-written old lines conn held updates c =
-    subst (λ (b : Bool). tree.get nat_cmp lines c ≡ cond b (Some held) (tree.get nat_cmp old.lines c)) (unsigned_tied conn c) (updates.0 c)
+written old lines conn held updates c = put-at old.lines lines conn held updates c
 
 pub written-here : (old : CloudServer) (lines : Lines) (conn : ℕ) (held : Option (Progress AskHead)) → tree.UpdatesBy nat_cmp (nat_cmp conn) old.lines lines (Some held)
     → line_at (with_lines old lines) conn ≡ Some held

@@ -3,3 +3,7 @@ pub mod Course
 pub mod CloudRole
 pub mod CloudStanding
 pub mod CloudWaiting
+pub mod MetaRole
+pub mod MetaLines
+pub mod MetaStanding
+pub mod MetaPlaying

@@ -1,4 +1,4 @@
-//! The servers over a net: a cloud.
+//! The servers over a net: a cloud, and the metadata service.
 #![tactic(auto)]
 
 mod answer;
@@ -6,10 +6,15 @@ mod cloud_lines;
 mod cloud_server;
 mod cloud_serving;
 mod fault;
+mod letter;
+mod meta_lines;
+mod meta_server;
+mod meta_serving;
 mod room;
 
 pub use cloud_serving::serve_cloud;
 pub use fault::ServeFault;
+pub use meta_serving::serve_meta;
 
 #[cfg(test)]
 mod tests;

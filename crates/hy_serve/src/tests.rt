@@ -1,3 +1,5 @@
+mod meta;
+
 use super::*;
 use hy_base::{Arrived, Blob, NetCall, NetTape};
 use std::alloc::Global;
