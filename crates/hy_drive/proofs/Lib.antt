@@ -1,0 +1,12 @@
+pub mod Reading
+pub mod Courses
+pub mod Sendable
+pub mod Lines
+pub mod Hearing
+pub mod Taking
+pub mod Suiting
+pub mod Following
+pub mod Telling
+pub mod Sending
+pub mod Rounds
+pub mod Arrivals

@@ -1,0 +1,9 @@
+pub mod State
+pub mod Calling
+pub mod Judging
+pub mod Arriving
+pub mod Going
+pub mod Role
+pub mod Held
+pub mod Standing
+pub mod Stepping
