@@ -75,22 +75,23 @@ impl Connection {
         self.sent < self.unsent.len()
     }
 
-    /// Hands the socket what it takes of the bytes that wait.
-    pub(crate) fn flush(&mut self) -> io::Result<()> {
+    /// Hands the socket what it takes of the bytes that wait, and tells whether it took any.
+    pub(crate) fn flush(&mut self) -> io::Result<bool> {
         let rest = self.unsent.get(self.sent..).unwrap_or(b"");
         if rest.is_empty() {
-            return Ok(());
+            return Ok(false);
         }
-        match self.stream.write(rest) {
-            Ok(count) => self.sent = self.sent.saturating_add(count),
-            Err(error) if is_waiting(&error) => {}
+        let count = match self.stream.write(rest) {
+            Ok(count) => count,
+            Err(error) if is_waiting(&error) => 0,
             Err(error) => return Err(error),
-        }
+        };
+        self.sent = self.sent.saturating_add(count);
         if !self.has_unsent() {
             self.unsent.clear();
             self.sent = 0;
         }
-        Ok(())
+        Ok(count > 0)
     }
 
     /// Tells the peer that no more comes.

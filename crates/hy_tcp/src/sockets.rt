@@ -16,11 +16,21 @@ use std::time::Duration;
 /// The most connections that are open at once.
 const ROOM: usize = 8_192;
 
-/// How many passes a closed connection goes on, so that its peer gets what was sent.
-const LINGER: u32 = 2_000;
+/// How long a closed connection goes on when its peer takes nothing of what was sent, in microseconds
+/// of rests; a pass without a rest counts as one. What the peer sends meanwhile is read, and left.
+const LINGER: u32 = 600_000;
+
+/// The time that a pass without a rest counts as, in microseconds.
+const PASSING: u32 = 1;
+
+/// The bytes of a piece of memory that is larger than any that a server takes for a value.
+const LARGE: usize = 32_000_000;
+
+/// How many pieces are read, one after another, before a look whether a peer waits to be accepted.
+const READS: u32 = 8;
 
 /// How many passes one wait makes at most.
-const PASSES: u32 = 1_000;
+const PASSES: u32 = 100_000;
 
 /// How long a dial waits for its peer, in milliseconds.
 const DIALLING: u64 = 1_000;
@@ -36,7 +46,7 @@ struct Open {
 #[derive(Drop)]
 struct Closing {
     connection: Connection,
-    passes: u32,
+    patience: u32,
     ended: bool,
 }
 
@@ -48,12 +58,21 @@ pub(crate) struct Sockets {
     open: Vec<Open>,
     closing: Vec<Closing>,
     turn: usize,
+    reads: u32,
     given: u32,
     pace: Pace,
 }
 
 fn loopback(port: u16) -> SocketAddr {
     SocketAddr::V4(SocketAddrV4::new(Ipv4Addr::new(127, 0, 0, 1), port))
+}
+
+/// Has the allocator keep what is freed from now on. It gives memory back to the system beyond a limit
+/// that rises with the largest piece ever freed, and a server takes and frees values all the time.
+fn keep_freed_memory(alloc: Global) -> Result<(), AllocError> {
+    let mut large: Vec<u8> = Vec::with_capacity(alloc, LARGE)?;
+    large.push(0)?;
+    Ok(())
 }
 
 fn unknown() -> io::Error {
@@ -63,12 +82,14 @@ fn unknown() -> io::Error {
 impl Sockets {
     /// No socket is open. Room is reserved for as many connections as can be.
     pub(crate) fn new(alloc: Global) -> Result<Sockets, AllocError> {
+        keep_freed_memory(alloc)?;
         Ok(Sockets {
             alloc,
             listener: None,
             open: Vec::with_capacity(alloc, ROOM)?,
             closing: Vec::with_capacity(alloc, ROOM)?,
             turn: 0,
+            reads: 0,
             given: 0,
             pace: Pace::new(),
         })
@@ -114,7 +135,7 @@ impl Sockets {
         match self.place_of(number) {
             Some(place) if place < self.open.len() => {
                 let mut closing = Closing::of(self.open.remove(place).connection);
-                if closing.goes_on() && self.closing.len() < ROOM {
+                if closing.goes_on(0) && self.closing.len() < ROOM {
                     self.closing.push(closing)?;
                 }
                 Ok(())
@@ -127,22 +148,43 @@ impl Sockets {
     pub(crate) fn wait<C: Clock>(&mut self, clock: &C, buf: &mut [u8]) -> io::Result<Arrival>
         ensures { IfOk result (InBuffer (length buf.new)) }
     {
+        let mut passed = PASSING;
         for _ in 0..PASSES {
-            self.go_on();
-            if let Some(number) = self.accept()? {
-                self.pace.hurry();
-                return Ok(Arrival::Opened(number));
-            }
-            if let Some(arrival) = self.read_any(buf) {
+            self.go_on(passed);
+            passed = PASSING;
+            if let Some(arrival) = self.read_or_accept(buf)? {
                 self.pace.hurry();
                 return Ok(arrival);
+            }
+            if self.pace.is_eager(self.open.len()) {
+                continue;
             }
             if self.pace.is_over() {
                 break;
             }
-            self.pace.rest(clock);
+            passed = self.pace.rest(clock);
         }
         Ok(Arrival::Quiet)
+    }
+
+    /// A piece of an open connection, or else a new one. A peer that waits to be accepted comes first
+    /// where many pieces were read since the last look.
+    fn read_or_accept(&mut self, buf: &mut [u8]) -> io::Result<Option<Arrival>>
+        ensures { IfOk result (λ found. IfSome found (InBuffer (length buf.new))) }
+    {
+        let is_late = self.reads >= READS;
+        if !is_late {
+            if let Some(arrival) = self.read_any(buf) {
+                self.reads = self.reads.saturating_add(1);
+                return Ok(Some(arrival));
+            }
+        }
+        self.reads = 0;
+        match self.accept()? {
+            Some(number) => Ok(Some(Arrival::Opened(number))),
+            None if is_late => Ok(self.read_any(buf)),
+            None => Ok(None),
+        }
     }
 
     /// Numbers the connection over the socket, and keeps it.
@@ -212,12 +254,15 @@ impl Sockets {
         }
     }
 
-    /// Hands the sockets what waits for them, and goes on with those that are being closed.
-    fn go_on(&mut self) {
+    /// Hands the sockets what waits for them, and goes on with those that are being closed, where so much
+    /// time passed. A peer that takes what waits for it will soon take more.
+    fn go_on(&mut self, passed: u32) {
         for open in self.open.iter_mut() {
-            let _failed = open.connection.flush();
+            if matches!(open.connection.flush(), Ok(true)) {
+                self.pace.hurry();
+            }
         }
-        self.closing.retain_mut(|closing| closing.goes_on());
+        self.closing.retain_mut(|closing| closing.goes_on(passed));
     }
 }
 
@@ -226,28 +271,33 @@ impl Closing {
     fn of(connection: Connection) -> Closing {
         Closing {
             connection,
-            passes: LINGER,
+            patience: LINGER,
             ended: false,
         }
     }
 
-    /// Sends what waits, then ends, and reads until the peer has ended too; whether that is still to be done.
-    fn goes_on(&mut self) -> bool {
-        self.passes = self.passes.saturating_sub(1);
-        if self.passes == 0 || self.connection.flush().is_err() {
-            return false;
+    /// Sends what waits, then ends, and reads until the peer has ended too; whether that is still to be
+    /// done. Where the peer takes something, the time that passed counts no more.
+    fn goes_on(&mut self, passed: u32) -> bool {
+        match self.is_taken() {
+            Some(true) => self.patience = LINGER,
+            Some(false) => self.patience = self.patience.saturating_sub(passed),
+            None => return false,
         }
+        self.patience > 0
+    }
+
+    /// Whether the peer took anything; none where the connection is at its end, or failed.
+    fn is_taken(&mut self) -> Option<bool> {
+        let took = self.connection.flush().ok()?;
         if !self.ended && !self.connection.has_unsent() {
-            if self.connection.end().is_err() {
-                return false;
-            }
+            self.connection.end().ok()?;
             self.ended = true;
         }
         let mut rest = [0u8; 4_096];
         match self.connection.read(&mut rest) {
-            Ok(Some(count)) => count > 0,
-            Ok(None) => true,
-            Err(_) => false,
+            Ok(Some(0)) | Err(_) => None,
+            Ok(_) => Some(took),
         }
     }
 }
