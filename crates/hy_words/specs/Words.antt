@@ -1,18 +1,22 @@
 -- What the words of the command line ask for.
-use Rattle.std.specs.Prelude.{◌≤◌, ℕ, List, [], ◌∷◌, Option, Some, None, Result, Ok, Err, codes}
+use Rattle.std.specs.Prelude.{◌≤◌, ℕ, List, [], ◌∷◌, Option, Some, None, Result, Ok, codes}
 use Rattle.hy_base.specs.Results.{◌>>=◌}
+use Rattle.hy_base.specs.Shape.{IsShape}
 use Rattle.hy_base.specs.declared.fault.Cause.{Cause}
+use Rattle.hy_base.specs.declared.limits.TheConstants.{MAX_F, MAX_K, MAX_MADE}
 use Rattle.hy_text.specs.Line.{first_word, later_words}
-use Rattle.hy_text.specs.Slot.{end_of, number_of}
+use Rattle.hy_text.specs.Slot.{end_of, key_word, number_of}
 use Rattle.hy_text.specs.Table.{value_named}
 use Rattle.hy_words.specs.Given.{given_of}
 use Rattle.hy_words.specs.declared.command.Command.{Command}
-use Rattle.hy_words.specs.declared.command.Command.TheVariants.{OnText, Make, Vectors, Cloud}
+use Rattle.hy_words.specs.declared.command.Command.TheVariants.{OnText, Make, Vectors, Meta, Cloud, OnStore}
+use Rattle.hy_words.specs.declared.command.StoreCommand.{StoreCommand}
+use Rattle.hy_words.specs.declared.command.StoreCommand.TheVariants as stores
 use Rattle.hy_words.specs.declared.command.TextCommand.TheVariants as texts
-use Rattle.hy_base.specs.declared.limits.TheConstants.{MAX_MADE}
-use Rattle.hy_words.specs.declared.limits.TheConstants.{MAX_PORT, MAX_SEED, SERVER_ARRIVALS}
+use Rattle.hy_words.specs.declared.limits.TheConstants.{CLIENT_ARRIVALS, COLLECT_ARRIVALS, MAX_FIRST_PORT, MAX_PORT, MAX_SEED, SERVER_ARRIVALS}
 use Rattle.hy_words.specs.declared.name.Name.{Name}
 use Rattle.hy_words.specs.declared.name.Name.TheVariants as names
+use Rattle.hy_words.specs.declared.request.Request.{Request}
 
 -- the word that a command's name is
 abbrev pub name_word : Name → List ℕ
@@ -20,11 +24,18 @@ name_word names.Replay = codes "replay"
 name_word names.Check = codes "check"
 name_word names.Make = codes "make"
 name_word names.Vectors = codes "vectors"
+name_word names.Meta = codes "meta"
 name_word names.Cloud = codes "cloud"
+name_word names.Put = codes "put"
+name_word names.Get = codes "get"
+name_word names.Delete = codes "delete"
+name_word names.Collect = codes "collect"
 
 -- the names of all commands
 abbrev pub all_names : List Name
-all_names = names.Replay ∷ names.Check ∷ names.Make ∷ names.Vectors ∷ names.Cloud ∷ []
+all_names =
+    names.Replay ∷ names.Check ∷ names.Make ∷ names.Vectors ∷ names.Meta ∷ names.Cloud
+    ∷ names.Put ∷ names.Get ∷ names.Delete ∷ names.Collect ∷ []
 
 -- the number of the option, or the usual one where it is not given
 abbrev pub number_or : ℕ → Option ℕ → ℕ
@@ -43,13 +54,33 @@ make_of words =
     end_of (later_words (later_words words)) >>= λ _.
     Ok (Make seed events)
 
--- the port of a server, and the option
-unfoldable pub cloud_of : List (List ℕ) → Result Command Cause
-cloud_of words =
+-- a port up to this one
+abbrev pub port_of : ℕ → List ℕ → Result ℕ Cause
+port_of last word = number_of 1 last word
+
+-- the port of a server, and how many arrivals it takes
+unfoldable pub served_of : List (List ℕ) → Result (ℕ × ℕ) Cause
+served_of words =
     given_of words >>= λ given.
-    number_of 1 MAX_PORT (first_word given.operands) >>= λ port.
+    port_of MAX_PORT (first_word given.operands) >>= λ port.
     end_of (later_words given.operands) >>= λ _.
-    Ok (Cloud port (number_or SERVER_ARRIVALS given.arrivals))
+    Ok (port, number_or SERVER_ARRIVALS given.arrivals)
+
+-- the store and the key, with so many arrivals where the option gives no number
+unfoldable pub request_of : ℕ → List (List ℕ) → Result Request Cause
+request_of usual words =
+    given_of words >>= λ given.
+    number_of 0 MAX_F (first_word given.operands) >>= λ f.
+    number_of 1 MAX_K (first_word (later_words given.operands)) >>= λ k.
+    port_of MAX_PORT (first_word (later_words (later_words given.operands))) >>= λ meta.
+    port_of MAX_FIRST_PORT (first_word (later_words (later_words (later_words given.operands)))) >>= λ clouds.
+    key_word (first_word (later_words (later_words (later_words (later_words given.operands))))) >>= λ key.
+    end_of (later_words (later_words (later_words (later_words (later_words given.operands))))) >>= λ _.
+    Ok (record { f = f; k = k; meta = meta; clouds = clouds; key = key; arrivals = number_or usual given.arrivals })
+
+-- a command on a key of a store
+abbrev pub on_store : StoreCommand → ℕ → List (List ℕ) → Result Command Cause
+on_store command usual words = request_of usual words >>= λ request. Ok (OnStore command request)
 
 -- the command of a name, of the words behind it
 abbrev pub command_by : Name → List (List ℕ) → Result Command Cause
@@ -57,15 +88,35 @@ command_by names.Replay words = alone (OnText texts.Replay) words
 command_by names.Check words = alone (OnText texts.Check) words
 command_by names.Make words = make_of words
 command_by names.Vectors words = alone Vectors words
-command_by names.Cloud words = cloud_of words
+command_by names.Meta words = served_of words >>= λ served. Ok (Meta served.0 served.1)
+command_by names.Cloud words = served_of words >>= λ served. Ok (Cloud served.0 served.1)
+command_by names.Put words = on_store stores.Put CLIENT_ARRIVALS words
+command_by names.Get words = on_store stores.Get CLIENT_ARRIVALS words
+command_by names.Delete words = on_store stores.Delete CLIENT_ARRIVALS words
+command_by names.Collect words = on_store stores.Collect COLLECT_ARRIVALS words
 
 -- the command that the words ask for
 abbrev pub command_of : List (List ℕ) → Result Command Cause
 command_of words = value_named name_word all_names (first_word words) >>= λ name. command_by name (later_words words)
+
+-- ---- ranges
+
+-- a port up to this one
+pub record IsPort (last port : ℕ) : Type 0 where
+  pub some : 1 ≤ port
+  pub within : port ≤ last
+
+-- the store and its ports are within their limits
+pub record IsRequest (request : Request) : Type 0 where
+  pub shape : IsShape request.f request.k
+  pub meta : IsPort MAX_PORT request.meta
+  pub clouds : IsPort MAX_FIRST_PORT request.clouds
 
 -- the numbers of a command are within their limits
 abbrev pub IsInRange : Command → Type 0
 IsInRange (OnText command) = Unit {0}
 IsInRange (Make seed events) = (seed ≤ MAX_SEED) × (events ≤ MAX_MADE)
 IsInRange Vectors = Unit {0}
-IsInRange (Cloud port arrivals) = 1 ≤ port
+IsInRange (Meta port arrivals) = IsPort MAX_PORT port
+IsInRange (Cloud port arrivals) = IsPort MAX_PORT port
+IsInRange (OnStore command request) = IsRequest request

@@ -11,16 +11,26 @@ pub(crate) enum Name {
     Check,
     Make,
     Vectors,
+    Meta,
     Cloud,
+    Put,
+    Get,
+    Delete,
+    Collect,
 }
 
 /// The names of all commands.
-pub(crate) const NAMES: [Name; 5] = [
+pub(crate) const NAMES: [Name; 10] = [
     Name::Replay,
     Name::Check,
     Name::Make,
     Name::Vectors,
+    Name::Meta,
     Name::Cloud,
+    Name::Put,
+    Name::Get,
+    Name::Delete,
+    Name::Collect,
 ];
 
 impl Named for Name {
@@ -32,7 +42,12 @@ impl Named for Name {
             Name::Check => b"check",
             Name::Make => b"make",
             Name::Vectors => b"vectors",
+            Name::Meta => b"meta",
             Name::Cloud => b"cloud",
+            Name::Put => b"put",
+            Name::Get => b"get",
+            Name::Delete => b"delete",
+            Name::Collect => b"collect",
         }
     }
 }

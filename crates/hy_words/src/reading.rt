@@ -1,15 +1,18 @@
 //! Reads the words of the command line.
 
 ghost use Rattle.std.specs.Prelude.{◌≡◌, IfOk, map, string_bytes};
-ghost use Rattle.hy_words.specs.Words.{IsInRange, alone, cloud_of, command_by, command_of, make_of};
+ghost use Rattle.hy_words.specs.Words.{IsInRange, IsPort, IsRequest, alone, command_by, command_of, make_of, on_store, port_of, request_of, served_of};
 
-use crate::command::{Command, TextCommand};
+use crate::command::{Command, StoreCommand, TextCommand};
 use crate::given::given_of;
-use crate::limits::{MAX_PORT, MAX_SEED, SERVER_ARRIVALS};
+use crate::limits::{
+    CLIENT_ARRIVALS, COLLECT_ARRIVALS, MAX_FIRST_PORT, MAX_PORT, MAX_SEED, SERVER_ARRIVALS,
+};
 use crate::name::{NAMES, Name};
 use crate::operands::{Operands, first_word};
-use hy_base::{Cause, MAX_MADE};
-use hy_text::{read_named, read_number, read_u32};
+use crate::request::Request;
+use hy_base::{Cause, MAX_F, MAX_K, MAX_MADE};
+use hy_text::{read_key, read_named, read_number, read_u32};
 
 /// The command that the words ask for.
 pub fn read_command(words: &[String]) -> Result<Command, Cause>
@@ -30,7 +33,18 @@ fn command_by(name: Name, words: &[String]) -> Result<Command, Cause>
         Name::Check => alone(Command::OnText(TextCommand::Check), words),
         Name::Make => read_make(words),
         Name::Vectors => alone(Command::Vectors, words),
-        Name::Cloud => read_cloud(words),
+        Name::Meta => {
+            let (port, arrivals) = read_served(words)?;
+            Ok(Command::Meta { port, arrivals })
+        }
+        Name::Cloud => {
+            let (port, arrivals) = read_served(words)?;
+            Ok(Command::Cloud { port, arrivals })
+        }
+        Name::Put => on_store(StoreCommand::Put, CLIENT_ARRIVALS, words),
+        Name::Get => on_store(StoreCommand::Get, CLIENT_ARRIVALS, words),
+        Name::Delete => on_store(StoreCommand::Delete, CLIENT_ARRIVALS, words),
+        Name::Collect => on_store(StoreCommand::Collect, COLLECT_ARRIVALS, words),
     }
 }
 
@@ -57,17 +71,53 @@ fn read_make(words: &[String]) -> Result<Command, Cause>
     Ok(Command::Make { seed, events })
 }
 
-/// The port of a cloud's server, and the option.
-#[tactic(auto, unfolding(crate::specs::Words::cloud_of))]
-fn read_cloud(words: &[String]) -> Result<Command, Cause>
-    ensures command { result ≡ cloud_of (map string_bytes words.now) }
-    ensures range { IfOk result IsInRange }
+/// A port up to this one.
+fn read_port(word: &[u8], last: u16) -> Result<u16, Cause>
+    ensures port { result ≡ port_of last word.now }
+    ensures range { IfOk result (IsPort last) }
+{
+    Ok(read_u32(word, 1, last.into())? as u16)
+}
+
+/// The port of a server, and how many arrivals it takes.
+#[tactic(auto, unfolding(crate::specs::Words::served_of))]
+fn read_served(words: &[String]) -> Result<(u16, u32), Cause>
+    ensures served { result ≡ served_of (map string_bytes words.now) }
+    ensures range { IfOk result (λ served. IsPort MAX_PORT served.0) }
 {
     let mut given = given_of(words)?;
-    let port = read_u32(given.operands.next_word(), 1, u32::from(MAX_PORT))? as u16;
+    let port = read_port(given.operands.next_word(), MAX_PORT)?;
     given.operands.end()?;
-    Ok(Command::Cloud {
-        port,
-        arrivals: given.arrivals.unwrap_or(SERVER_ARRIVALS),
+    Ok((port, given.arrivals.unwrap_or(SERVER_ARRIVALS)))
+}
+
+/// The command on a key of a store, where so many arrivals are taken if the option gives no number.
+fn on_store(command: StoreCommand, usual: u32, words: &[String]) -> Result<Command, Cause>
+    ensures command { result ≡ on_store command usual (map string_bytes words.now) }
+    ensures range { IfOk result IsInRange }
+{
+    Ok(Command::OnStore(command, read_request(usual, words)?))
+}
+
+/// The store and the key.
+#[tactic(auto, unfolding(crate::specs::Words::request_of))]
+fn read_request(usual: u32, words: &[String]) -> Result<Request, Cause>
+    ensures request { result ≡ request_of usual (map string_bytes words.now) }
+    ensures range { IfOk result IsRequest }
+{
+    let mut given = given_of(words)?;
+    let f = read_u32(given.operands.next_word(), 0, MAX_F.into())? as u8;
+    let k = read_u32(given.operands.next_word(), 1, MAX_K.into())? as u8;
+    let meta = read_port(given.operands.next_word(), MAX_PORT)?;
+    let clouds = read_port(given.operands.next_word(), MAX_FIRST_PORT)?;
+    let key = read_key(given.operands.next_word())?;
+    given.operands.end()?;
+    Ok(Request {
+        f,
+        k,
+        meta,
+        clouds,
+        key,
+        arrivals: given.arrivals.unwrap_or(usual),
     })
 }

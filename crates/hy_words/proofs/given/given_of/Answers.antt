@@ -1,8 +1,8 @@
 -- The words are split where the first option stands.
-use Rattle.std.proofs.Common.{◌≡◌, ℕ, ◌+◌, List, [], map, string_bytes, Option, Some, None, take, drop, length, arith, ◌-◌, refl, sym, ap, ◌∙◌, get_or}
+use Rattle.std.proofs.Common.{◌≡◌, ◌+◌, [], map, string_bytes, Some, None, drop, length, arith, ◌-◌, refl, sym, ◌∙◌}
 use Rattle.std.specs.List.{position}
 use Rattle.std.proofs.lemmas.List.{append-nil, take-map, drop-map, get_or-map, take_all, length-drop}
-use Rattle.hy_words.specs.Given.{given_at, given_of, given_with, is_option}
+use Rattle.hy_words.specs.Given.{is_option}
 use Rattle.hy_words.proofs.Places.{position-map}
 use Rattle.hy_words.proofs.given.given_of.Goals as goal
 

@@ -1,7 +1,5 @@
 -- An operand that is left before the option is one too many.
-use Rattle.std.proofs.Common.{◌≡◌, ℕ, ◌<◌, length, arith}
-use Rattle.hy_text.specs.Slot.{end_of}
-use Rattle.hy_words.specs.Operands.{operands_left}
+use Rattle.std.proofs.Common.{arith}
 use Rattle.hy_words.proofs.Places.{one_left}
 use Rattle.hy_words.proofs.operands.Operands.end.Goals as goal
 
