@@ -5,7 +5,7 @@ use Rattle.hy_base.specs.Faults.{Rose}
 use Rattle.hy_base.specs.Sink.{SinkUse, AppendsFront}
 use Rattle.hy_base.specs.Source.{SourceUse}
 use Rattle.hy_top.specs.Job.{ComesTo, text_due, status_due}
-use Rattle.hy_top.specs.Serve.{NetUse}
+use Rattle.hy_top.specs.NetUse.{NetUse}
 use Rattle.hy_top.specs.declared.status.Status.{Status}
 use Rattle.hy_top.specs.declared.status.Status.TheVariants.{Done, WriteFault, NoMemory}
 

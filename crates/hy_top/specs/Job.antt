@@ -1,16 +1,20 @@
 -- What a job answers, an output or a refusal, and when.
-use Rattle.std.specs.Prelude.{ℕ, List, [], ◌∷◌, Result, Ok, Err}
+use Rattle.std.specs.Prelude.{ℕ, List, Result, Ok, Err}
 use Rattle.hy_base.specs.Source.{SourceUse}
+use Rattle.hy_serve.specs.CloudRole.{ServesCloud}
+use Rattle.hy_serve.specs.MetaRole.{ServesMeta}
 use Rattle.hy_top.specs.Check.{Checks}
 use Rattle.hy_top.specs.Command.{Asks, IsCommand}
 use Rattle.hy_top.specs.Input.{IsWholeInput, IsUnreadable, IsOverlong}
 use Rattle.hy_top.specs.Line.{refusal_line}
 use Rattle.hy_top.specs.Make.{MakesSummary}
 use Rattle.hy_top.specs.Replay.{Replays}
-use Rattle.hy_top.specs.Serve.{NetUse, ServesAt}
+use Rattle.hy_top.specs.NetUse.{NetUse}
+use Rattle.hy_top.specs.Operate.{DoesOnStore}
+use Rattle.hy_top.specs.Serve.{ServesAt}
 use Rattle.hy_top.specs.Vectors.{GivesVectors}
 use Rattle.hy_words.specs.declared.command.Command.{Command}
-use Rattle.hy_words.specs.declared.command.Command.TheVariants.{OnText, Make, Vectors, Cloud}
+use Rattle.hy_words.specs.declared.command.Command.TheVariants.{OnText, Make, Vectors, Meta, Cloud, OnStore}
 use Rattle.hy_words.specs.declared.command.TextCommand.{TextCommand}
 use Rattle.hy_words.specs.declared.command.TextCommand.TheVariants.{Replay, Check}
 use Rattle.hy_top.specs.declared.status.Status.{Status}
@@ -39,7 +43,9 @@ abbrev pub Does : Command → SourceUse → NetUse → Result (List ℕ) Status 
 Does (OnText command) input net answer = DoesOnText command input answer
 Does (Make seed events) input net answer = MakesSummary seed events answer
 Does Vectors input net answer = GivesVectors answer
-Does (Cloud port arrivals) input net answer = ServesAt port arrivals net answer
+Does (Meta port arrivals) input net answer = ServesAt (ServesMeta port arrivals) arrivals net answer
+Does (Cloud port arrivals) input net answer = ServesAt (ServesCloud port arrivals) arrivals net answer
+Does (OnStore command request) input net answer = DoesOnStore command request input net answer
 
 -- the words ask for a command, and it answered this
 pub record IsDone (words : List (List ℕ)) (input : SourceUse) (net : NetUse) (answer : Result (List ℕ) Status) : Type 0 where

@@ -3,7 +3,10 @@ pub mod Command
 pub mod Input
 pub mod Replay
 pub mod Vectors
+pub mod NetUse
 pub mod Serve
+pub mod Reply
+pub mod Operate
 pub mod Line
 pub mod Check
 pub mod Make

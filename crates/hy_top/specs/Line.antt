@@ -3,9 +3,11 @@ use Rattle.std.specs.Prelude.{ℕ, List, [], ◌∷◌, codes}
 use Rattle.std.specs.Fmt.{decimal}
 use Rattle.hy_base.specs.declared.fault.TextFault.{TextFault}
 use Rattle.hy_text.specs.Cause.{cause_word}
+use Rattle.hy_record.specs.Stamp.{Timestamp}
 use Rattle.hy_text.specs.Line.{line_text}
+use Rattle.hy_text.specs.Stamp.{stamp_words}
 use Rattle.hy_top.specs.declared.status.Status.{Status}
-use Rattle.hy_top.specs.declared.status.Status.TheVariants.{BadInput, BadWords, ReadFault, NetFault, TooLong, Illegal}
+use Rattle.hy_top.specs.declared.status.Status.TheVariants.{BadInput, BadWords, NotYet, ReadFault, NetFault, TooLong, Illegal, Exhausted, TooLarge, SessionsFull}
 use Rattle.hy_order.specs.declared.verdict.Verdict.{Verdict}
 use Rattle.hy_order.specs.declared.verdict.Verdict.TheVariants.{Legal, Missing, Stranger, Twice, Early, Wrong}
 
@@ -20,6 +22,18 @@ legal_line count = line_text (codes "legal" ∷ decimal count ∷ [])
 -- how many arrivals a server took
 abbrev pub arrivals_line : ℕ → List ℕ
 arrivals_line count = line_text (codes "arrivals" ∷ decimal count ∷ [])
+
+-- what an operation has, and what it needs
+abbrev pub not_yet_line : ℕ → ℕ → List ℕ
+not_yet_line have need = line_text (codes "not" ∷ codes "yet" ∷ decimal have ∷ decimal need ∷ [])
+
+-- the last timestamp that there is
+abbrev pub exhausted_line : Timestamp → List ℕ
+exhausted_line stamp = line_text (codes "exhausted" ∷ stamp_words stamp)
+
+-- the bytes of a value that is too large
+abbrev pub too_large_line : ℕ → List ℕ
+too_large_line size = line_text (codes "too" ∷ codes "large" ∷ decimal size ∷ [])
 
 -- the words that tell a verdict
 abbrev pub verdict_words : Verdict → List (List ℕ)
@@ -40,6 +54,10 @@ refusal_line BadWords = line_text (codes "bad" ∷ codes "words" ∷ [])
 refusal_line ReadFault = line_text (codes "read" ∷ codes "fault" ∷ [])
 refusal_line NetFault = line_text (codes "net" ∷ codes "fault" ∷ [])
 refusal_line TooLong = line_text (codes "too" ∷ codes "long" ∷ [])
+refusal_line SessionsFull = line_text (codes "sessions" ∷ codes "full" ∷ [])
+refusal_line (NotYet have need) = not_yet_line have need
+refusal_line (Exhausted stamp) = exhausted_line stamp
+refusal_line (TooLarge size) = too_large_line size
 refusal_line (BadInput fault) = bad_input_line fault
 refusal_line (Illegal key verdict) = illegal_line key verdict
 refusal_line other = []

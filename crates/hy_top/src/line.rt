@@ -2,14 +2,15 @@
 
 ghost use Rattle.std.specs.Prelude.{◌≡◌, ◌∷◌, [], ◌++◌, IfOk, OnOk};
 ghost use Rattle.std.specs.Fmt.{decimal};
-ghost use Rattle.hy_text.specs.Line.{spaced};
-ghost use Rattle.hy_top.specs.Line.{arrivals_line, bad_input_line, legal_line, illegal_line, refusal_line, verdict_words};
+ghost use Rattle.hy_text.specs.Line.{line_text, spaced};
+ghost use Rattle.hy_text.specs.Stamp.{stamp_words};
+ghost use Rattle.hy_top.specs.Line.{arrivals_line, bad_input_line, legal_line, illegal_line, not_yet_line, refusal_line, too_large_line, verdict_words};
 
 use crate::status::Status;
 use hy_base::{Blob, NoMemory, TextFault};
 use hy_order::Verdict;
-use hy_record::Key;
-use hy_text::{cause_name, push_number_word, push_word};
+use hy_record::{Key, Stamp};
+use hy_text::{cause_name, push_number_word, push_stamp, push_word};
 use std::alloc::Global;
 
 /// The line of a refusal; a status that is none has no line.
@@ -21,6 +22,10 @@ pub(crate) fn refusal_line(alloc: Global, status: &Status) -> Result<Blob, NoMem
         Status::ReadFault => Blob::copy_of(alloc, b"read fault\n"),
         Status::NetFault => Blob::copy_of(alloc, b"net fault\n"),
         Status::TooLong => Blob::copy_of(alloc, b"too long\n"),
+        Status::SessionsFull => Blob::copy_of(alloc, b"sessions full\n"),
+        Status::NotYet { have, need } => not_yet_line(alloc, *have, *need),
+        Status::Exhausted(stamp) => Ok(Blob::of(stamp_line(alloc, b"exhausted", stamp)?)),
+        Status::TooLarge(size) => too_large_line(alloc, *size),
         Status::BadInput(fault) => bad_input_line(alloc, *fault),
         Status::Illegal(key, verdict) => illegal_line(alloc, key, *verdict),
         Status::Done | Status::WriteFault | Status::NoMemory => Ok(Blob::of(Vec::new(alloc))),
@@ -56,6 +61,37 @@ pub(crate) fn arrivals_line(alloc: Global, count: u32) -> Result<Blob, NoMemory>
     push_number_word(&mut line, count.into())?;
     line.push(b'\n')?;
     Ok(Blob::of(line))
+}
+
+/// The line that tells what an operation without a reply has, and what it needs.
+fn not_yet_line(alloc: Global, have: u32, need: u32) -> Result<Blob, NoMemory>
+    ensures { IfOk result (λ text. text ≡ not_yet_line have need) }
+{
+    let mut line = Vec::from_slice(alloc, b"not yet")?;
+    push_number_word(&mut line, have.into())?;
+    push_number_word(&mut line, need.into())?;
+    line.push(b'\n')?;
+    Ok(Blob::of(line))
+}
+
+/// The line that tells how many bytes a value has that is too large.
+fn too_large_line(alloc: Global, size: u64) -> Result<Blob, NoMemory>
+    ensures { IfOk result (λ text. text ≡ too_large_line size) }
+{
+    let mut line = Vec::from_slice(alloc, b"too large")?;
+    push_number_word(&mut line, size)?;
+    line.push(b'\n')?;
+    Ok(Blob::of(line))
+}
+
+/// The line of this word and a timestamp.
+pub(crate) fn stamp_line(alloc: Global, word: &[u8], stamp: &Stamp) -> Result<Vec<u8>, NoMemory>
+    ensures { IfOk result (λ line. line.items ≡ line_text (word.now ∷ stamp_words stamp.now)) }
+{
+    let mut line = Vec::from_slice(alloc, word)?;
+    push_stamp(&mut line, stamp)?;
+    line.push(b'\n')?;
+    Ok(line)
 }
 
 /// The line that names the first illegal order of a report and what is wrong with it.

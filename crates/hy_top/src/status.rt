@@ -1,12 +1,13 @@
 //! How a run of the program ends.
 
 ghost use Rattle.std.specs.Prelude.{◌≡◌};
-ghost use Rattle.hy_top.specs.Status.{status_of_reading, status_of_serving, status_of_text};
+ghost use Rattle.hy_top.specs.Status.{status_of_driving, status_of_reading, status_of_serving, status_of_text};
 ghost use Rattle.hy_top.specs.declared.status.Status.TheVariants as statuses;
 
 use hy_base::{NoMemory, ReadAllFault, TextError, TextFault};
+use hy_drive::DriveFault;
 use hy_order::Verdict;
-use hy_record::Key;
+use hy_record::{Key, Stamp};
 use hy_serve::ServeFault;
 
 /// How a run of the program ends. Each but Done, WriteFault and NoMemory is a refusal: a line tells it.
@@ -18,11 +19,14 @@ pub enum Status {
     BadInput(TextFault),
     /// The words are no command.
     BadWords,
+    /// All arrivals were taken and there is no reply: what the operation has, and what it needs.
+    NotYet { have: u32, need: u32 },
     /// The input could not be read.
     ReadFault,
     /// The output could not be written: a front of what was due was.
     WriteFault,
-    /// The net failed: a server could not listen, or could not take an arrival.
+    /// The net failed: a server could not listen, no arrival could be taken, or the metadata's server
+    /// could not be reached.
     NetFault,
     /// Memory ran out; nothing was written.
     NoMemory,
@@ -30,6 +34,12 @@ pub enum Status {
     TooLong,
     /// The report has an illegal order: the key of the first, and the verdict on it.
     Illegal(Key, Verdict),
+    /// The key's record has the last timestamp that there is, this one: nothing was changed.
+    Exhausted(Stamp),
+    /// The input of a put has so many bytes, more than the 1,048,576 of a value.
+    TooLarge(u64),
+    /// The metadata's server has no session left.
+    SessionsFull,
 }
 
 impl Status {
@@ -43,12 +53,16 @@ impl Status {
             Status::Done => 0,
             Status::BadInput(_) => 1,
             Status::BadWords => 2,
+            Status::NotYet { .. } => 3,
             Status::ReadFault => 4,
             Status::WriteFault => 5,
             Status::NetFault => 6,
             Status::NoMemory => 7,
             Status::TooLong => 8,
             Status::Illegal(..) => 9,
+            Status::Exhausted(_) => 10,
+            Status::TooLarge(_) => 11,
+            Status::SessionsFull => 12,
         }
     }
 }
@@ -91,6 +105,20 @@ impl From<ServeFault> for Status {
         match fault {
             ServeFault::NetFault => Status::NetFault,
             ServeFault::NoMemory => Status::NoMemory,
+        }
+    }
+}
+
+impl From<DriveFault> for Status {
+    ghost from_gives = { λ fault status. status ≡ status_of_driving fault };
+
+    fn from(fault: DriveFault) -> Status {
+        match fault {
+            DriveFault::NetFault => Status::NetFault,
+            DriveFault::SessionsFull => Status::SessionsFull,
+            DriveFault::TooLarge(size) => Status::TooLarge(size as u64),
+            DriveFault::NotYet { have, need } => Status::NotYet { have, need },
+            DriveFault::NoMemory => Status::NoMemory,
         }
     }
 }

@@ -1,11 +1,12 @@
 use super::*;
 use hy_base::{Blob, BytesIn, BytesOut, Cause, NetTape, TextFault};
 use hy_order::Verdict;
-use hy_record::Key;
+use hy_record::{Key, Stamp};
 use std::alloc::Global;
 use std::process::Abort;
 use std::test::Fail;
 
+mod network;
 mod schedules;
 
 /// A call of the program: the text of its input and how many line feeds stand after it, the
@@ -310,11 +311,16 @@ fn statuses_have_their_codes(rt: HostRuntime) -> Result<(), Fail> {
         (Status::Done, 0),
         (Status::BadInput(fault), 1),
         (Status::BadWords, 2),
+        (Status::NotYet { have: 0, need: 1 }, 3),
         (Status::ReadFault, 4),
         (Status::WriteFault, 5),
+        (Status::NetFault, 6),
         (Status::NoMemory, 7),
         (Status::TooLong, 8),
         (illegal("a", Verdict::Wrong(1))?, 9),
+        (Status::Exhausted(Stamp::zero()), 10),
+        (Status::TooLarge(1_048_577), 11),
+        (Status::SessionsFull, 12),
     ] {
         assert_eq!(rt; status.code(), code);
     }

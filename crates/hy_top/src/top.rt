@@ -5,20 +5,25 @@ ghost use Rattle.std.specs.String.{string_bytes};
 ghost use Rattle.hy_base.specs.Sink.{sink_use};
 ghost use Rattle.hy_base.specs.Source.{source_use};
 ghost use Rattle.hy_top.specs.Answer.{Answers, IsTold};
-ghost use Rattle.hy_top.specs.Command.{IsServerCommand, IsTextCommand};
-ghost use Rattle.hy_top.specs.Input.{ReadsInput};
+ghost use Rattle.hy_top.specs.Command.{IsReader, IsTalker};
 ghost use Rattle.hy_top.specs.Job.{ComesTo, DoesOnText, status_due, text_due};
-ghost use Rattle.hy_top.specs.Serve.{net_use};
+ghost use Rattle.hy_top.specs.NetUse.{net_use};
+ghost use Rattle.hy_top.specs.Operate.{DoesOnStore};
 ghost use Rattle.hy_top.specs.Vectors.{GivesVectors};
+ghost use Rattle.hy_words.specs.Words.{IsRequest};
+ghost use Rattle.hy_words.specs.declared.command.StoreCommand.TheVariants as commands;
 
+use crate::input::read_input;
 use crate::line::refusal_line;
 use crate::make_job::made_line;
-use crate::server_job::served_line;
+use crate::server_job::{cloud_line, meta_line};
 use crate::status::Status;
+use crate::store_job::{operate, put_input};
 use crate::text_job::output_on;
-use hy_base::{Blob, MAX_INPUT, Net, NoMemory, Sink, Source, read_all, write_all};
+use hy_base::{Blob, Net, NoMemory, Sink, Source, write_all};
+use hy_record::Action;
 use hy_vectors::vectors;
-use hy_words::{Command, TextCommand, read_command};
+use hy_words::{Command, Request, StoreCommand, TextCommand, read_command};
 use std::alloc::Global;
 
 /// Does the job that the words ask for, over this input, output and net, and tells how it went.
@@ -34,11 +39,11 @@ pub fn run<S: Source, K: Sink, N: Net>(
 ) -> Status
     ensures answers { Answers (map string_bytes words.now.items)
         (source_use S.left S.faults input.old input.new)
-        (net_use N.told N.tells N.taking_faults net.old net.new)
+        (net_use N.told N.tells N.taking_faults N.sending_faults net.old net.new)
         (sink_use K.written K.faults output.old output.new)
         result }
-    ensures unread { ¬ IsTextCommand (map string_bytes words.now.items) → input.new ≡ input.old }
-    ensures untouched { ¬ IsServerCommand (map string_bytes words.now.items) → net.new ≡ net.old }
+    ensures unread { ¬ IsReader (map string_bytes words.now.items) → input.new ≡ input.old }
+    ensures untouched { ¬ IsTalker (map string_bytes words.now.items) → net.new ≡ net.old }
     ensures reads { S.faults input.old ≤ S.faults input.new }
     ensures writes { K.faults output.old ≤ K.faults output.new }
 {
@@ -55,17 +60,43 @@ fn answer_of<S: Source, N: Net>(
 ) -> Result<Blob, Status>
     ensures answer { ComesTo (map string_bytes words.now)
         (source_use S.left S.faults input.old input.new)
-        (net_use N.told N.tells N.taking_faults net.old net.new) result }
-    ensures unread { ¬ IsTextCommand (map string_bytes words.now) → input.new ≡ input.old }
-    ensures untouched { ¬ IsServerCommand (map string_bytes words.now) → net.new ≡ net.old }
+        (net_use N.told N.tells N.taking_faults N.sending_faults net.old net.new) result }
+    ensures unread { ¬ IsReader (map string_bytes words.now) → input.new ≡ input.old }
+    ensures untouched { ¬ IsTalker (map string_bytes words.now) → net.new ≡ net.old }
     ensures reads { S.faults input.old ≤ S.faults input.new }
 {
     match read_command(words) {
         Ok(Command::OnText(command)) => read_and_make(alloc, command, input),
         Ok(Command::Make { seed, events }) => made_line(alloc, seed, events),
         Ok(Command::Vectors) => vectors_text(alloc),
-        Ok(Command::Cloud { port, arrivals }) => served_line(alloc, net, port, arrivals),
+        Ok(Command::Meta { port, arrivals }) => meta_line(alloc, net, port, arrivals),
+        Ok(Command::Cloud { port, arrivals }) => cloud_line(alloc, net, port, arrivals),
+        Ok(Command::OnStore(command, request)) => answer_on(alloc, command, &request, input, net),
         Err(_) => Err(Status::BadWords),
+    }
+}
+
+/// What the command on a store answers. Only a put reads the input.
+fn answer_on<S: Source, N: Net>(
+    alloc: Global,
+    command: StoreCommand,
+    request: &Request,
+    input: &mut S,
+    net: &mut N,
+) -> Result<Blob, Status>
+    requires { IsRequest request.now }
+    ensures answer { DoesOnStore command request.now
+        (source_use S.left S.faults input.old input.new)
+        (net_use N.told N.tells N.taking_faults N.sending_faults net.old net.new) result }
+    ensures unread { (command ≡ commands.Put → ⊥) → input.new ≡ input.old }
+    ensures reads { S.faults input.old ≤ S.faults input.new }
+{
+    let key = request.key;
+    match command {
+        StoreCommand::Put => put_input(alloc, request, input, net),
+        StoreCommand::Get => operate(alloc, request, Action::Get { key }, net),
+        StoreCommand::Delete => operate(alloc, request, Action::Delete { key }, net),
+        StoreCommand::Collect => operate(alloc, request, Action::Collect { key }, net),
     }
 }
 
@@ -87,14 +118,6 @@ fn read_and_make<S: Source>(
 {
     let text = read_input(alloc, input)?;
     output_on(alloc, command, text)
-}
-
-/// The input, read to its end.
-fn read_input<S: Source>(alloc: Global, input: &mut S) -> Result<Blob, Status>
-    ensures input { ReadsInput (source_use S.left S.faults input.old input.new) result }
-    ensures reads { S.faults input.old ≤ S.faults input.new }
-{
-    Ok(read_all(alloc, input, MAX_INPUT)?)
 }
 
 /// Writes the text that tells the answer.

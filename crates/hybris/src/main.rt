@@ -8,6 +8,9 @@ use std::process::ExitCode;
 use std::rt::Env;
 use std::{env, io};
 
+#[cfg(test)]
+mod tests;
+
 fn main(rt: HostRuntime) -> ExitCode {
     let mut input = ReadSource::new(rt.stdin());
     let mut output = WriteSink::new(rt.stdout());
