@@ -1,8 +1,0 @@
-use Rattle.std.proofs.Common.{◌≡◌, map, take}
-use Rattle.std.specs.Borrow.{Bor}
-use Rattle.hy_order.specs.declared.operation.Operation.{Operation}
-use Rattle.hy_order.specs.Linearization.{listed}
-use Rattle.hy_order.proofs.checker.listing.operations_of.Given as goal
-
-abbrev pub invariant-loop-number : goal.invariant-loop-number
-invariant-loop-number l = map (λ (op : Bor Operation). op.now) l.found.items ≡ listed l.index (take l.number-index l.numbers)
