@@ -6,7 +6,7 @@ use Rattle.hy_base.specs.declared.arrival.Arrived.{Arrived}
 use Rattle.hy_base.specs.declared.net_tape.NetTape.{NetTape}
 use Rattle.hy_base.specs.Faults.{FailsNext}
 use Rattle.hy_base.specs.Moves.{Move, Call, arrived, called, listen, dial, send, close, bytes_sent, sent_by, is_dialled}
-use Rattle.hy_base.specs.Outbox.{bytes_on, has_room}
+use Rattle.hy_base.specs.Outbox.{bytes_on, fresh_outbox, has_room}
 use Rattle.hy_base.specs.Script.{Leaves, rest_of}
 
 abbrev pub kept : Call → NetCall
@@ -32,11 +32,14 @@ pub record TellsTape (tape : NetTape) (moves : List Move) : Type 0 where
   pub sent : (conn : ℕ) → bytes_on tape.outbox conn ≡ bytes_sent conn moves
   pub fresh : (conn : ℕ) → tape.dialled < conn → is_dialled conn moves ≡ false
 
--- a tape of this script before its first call
-pub record IsFresh (script : List Arrived) (tape : NetTape) : Type 0 where
+-- a tape of this script before its first call, with room for so many calls and so many bytes, on which the calls of these numbers fail
+pub record IsFresh (script : List Arrived) (room : ℕ) (failing : List ℕ) (tape : NetTape) : Type 0 where
   pub stands : TellsTape tape []
   pub told : IsTold tape
   pub rest : rest_of tape.script ≡ script
+  pub reserved : tape.outbox ≡ fresh_outbox room
+  pub numbers : tape.calls.failing.items ≡ failing
+  pub first : tape.calls.made ≡ 0
   pub taking : tape.taking_faults ≡ 0
   pub sending : tape.sending_faults ≡ 0
 

@@ -45,7 +45,7 @@ impl NetTape {
         room: usize,
         failing: Vec<u32>,
     ) -> Result<NetTape, NoMemory>
-        ensures { IfOk result (IsFresh script.items) }
+        ensures { IfOk result (IsFresh script.items room failing.items) }
     {
         let outbox = Outbox::new(alloc, room)?;
         Ok(NetTape {
