@@ -11,7 +11,7 @@ use Rattle.hy_record.specs.Stamps.{is_rising}
 use Rattle.hy_record.specs.Record.{RecordValue}
 use Rattle.hy_meta.specs.Meta.{Says, GoesOn}
 use Rattle.hy_meta.specs.Entry.{EntryValue, entry_answers, asked_key, SameEntries, EntryBecomes, EntriesStandFor}
-use Rattle.hy_meta.proofs.Entries.{stands-same, stands-after, says-read, says-update, says-watch, says-olds, says-forgot}
+use Rattle.hy_meta.proofs.Standing.{stands-same, stands-after, says-read, says-update, says-watch, says-olds, says-forgot}
 
 abbrev Answer : Type 0
 Answer = Result (Vec MetaSay) NoMemory

@@ -21,7 +21,7 @@ use Rattle.hy_meta.specs.Rows.{row_of, record_of_row, olds_of_row, record_in, ol
 use Rattle.hy_meta.specs.Held.{rows_entry, is_due}
 use Rattle.hy_meta.proofs.Rising.{cases_bool}
 use Rattle.hy_meta.proofs.Steps.{on-applied, on-push, on-due}
-use Rattle.hy_meta.proofs.Entries.{at_own, entry_by, updated-applied, updated-refused, watched-waits}
+use Rattle.hy_meta.proofs.Standing.{at_own, entry_by, updated-applied, updated-refused, watched-waits}
 
 cases_row : (o : Option Row) → (o ≡ None) ⊎ ((row : Row) × (o ≡ Some row))
 cases_row None = inl refl

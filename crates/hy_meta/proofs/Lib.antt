@@ -2,8 +2,9 @@ pub mod Rising
 pub mod Places
 pub mod Steps
 pub mod Sets
-pub mod Entries
-pub mod Maps
+pub mod Standing
+pub mod Puts
+pub mod Slots
 pub mod Answering
 pub mod Turns
 pub mod Holds

@@ -5,4 +5,5 @@ pub mod Sessions
 pub mod Rows
 pub mod Run
 pub mod Entry
+pub mod Entries
 pub mod Held

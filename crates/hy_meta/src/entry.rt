@@ -10,6 +10,7 @@ ghost use Rattle.hy_meta.specs.Watches.{fired};
 ghost use Rattle.hy_meta.specs.Entry.{no_entry, entry_stamp, olds_after, watches_below, watches_from};
 ghost use Rattle.hy_meta.specs.Entry.{updated, watched, forgotten, entry_answers};
 
+use crate::messages::one;
 use crate::old_set::OldSet;
 use crate::watcher::Watcher;
 use hy_base::NoMemory;
@@ -140,8 +141,7 @@ impl Entry {
                 key: *key,
                 stamp: held,
             };
-            let mut says = Vec::new(alloc);
-            says.push(kept)?;
+            let says = one(alloc, kept)?;
             self.outdate(stamp)?;
             return Ok(says);
         }
@@ -187,8 +187,7 @@ fn told_of(
 ) -> Result<Vec<MetaSay>, NoMemory>
     ensures { IfOk result (λ sent. sent.items ≡ first ∷ map fired (watches_below stamp.now watches.now)) }
 {
-    let mut says = Vec::new(alloc);
-    says.push(first)?;
+    let mut says = one(alloc, first)?;
     for watcher in watches {
         if watcher.stamp.is_below(stamp) {
             says.push(watcher.fired())?;

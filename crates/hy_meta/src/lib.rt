@@ -1,9 +1,11 @@
 //! The metadata service: it keeps the record of each key and its superseded timestamps, and fires one-time watches.
 #![tactic(auto)]
 
-mod boxed_entry;
+mod digest;
+mod entries;
 mod entry;
 mod laws;
+mod messages;
 mod meta;
 mod old_set;
 mod olds;

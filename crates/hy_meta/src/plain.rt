@@ -12,9 +12,9 @@ ghost use Rattle.hy_meta.specs.Rows.{row_of, PutsRow, SameRows, AddsOld, superse
 ghost use Rattle.hy_meta.specs.Meta.{Says, GoesOn};
 ghost use Rattle.hy_meta.specs.Held.{PlainServes, is_due};
 
+use crate::messages::one;
 use crate::meta::{Meta, SessionsFull};
 use crate::rows::Rows;
-use crate::service::one;
 use crate::watcher::Watcher;
 use hy_base::{MAX_SESSIONS, NoMemory};
 use hy_record::{Key, MetaAsk, MetaSay, Record, Stamp, Stamps};

@@ -1,7 +1,6 @@
 //! The metadata service, by an ordered map of the keys.
 
 ghost use Rattle.std.specs.Prelude.{◌≡◌, ◌∷◌, [], IfOk, OnOk, OnErr, IsTrue, take};
-ghost use Rattle.std.specs.Option.{option_copied};
 ghost use Rattle.hy_record.specs.declared.message.MetaAsk.{MetaAsk};
 ghost use Rattle.hy_record.specs.declared.message.MetaAsk.TheVariants as asks;
 ghost use Rattle.hy_meta.specs.Meta.{Says, GoesOn};
@@ -9,13 +8,13 @@ ghost use Rattle.hy_meta.specs.Entry.{EntryPut, forgotten};
 ghost use Rattle.hy_meta.specs.Held.{Serves, entry_of};
 ghost use Rattle.hy_record.specs.Stamps.{is_rising};
 
-use crate::boxed_entry::BoxedEntry;
+use crate::entries::Entries;
+use crate::messages::one;
 use crate::meta::{Meta, SessionsFull};
 use crate::watcher::Watcher;
 use hy_base::{MAX_SESSIONS, NoMemory};
 use hy_record::{Key, MAX_STAMPS, MetaAsk, MetaSay, Record, Stamp, Stamps};
 use std::alloc::Global;
-use std::collections::BTreeMap;
 
 /// A metadata service that finds the entry of a key in the logarithm of their number.
 ///
@@ -24,7 +23,7 @@ use std::collections::BTreeMap;
 #[derive(Debug, Drop)]
 pub struct Service {
     given: u32,
-    entries: BTreeMap<Key, BoxedEntry>,
+    entries: Entries,
 }
 
 impl Service {
@@ -35,7 +34,7 @@ impl Service {
     {
         Ok(Service {
             given: 0,
-            entries: BTreeMap::new(alloc),
+            entries: Entries::new(alloc),
         })
     }
 
@@ -44,7 +43,7 @@ impl Service {
         ensures { IfOk result (λ rec. rec ≡ (entry_of self.now key.now).rec) }
     {
         match self.entries.get(key) {
-            Some(entry) => entry.get().copied(alloc),
+            Some(entry) => entry.copied(alloc),
             None => Ok(None),
         }
     }
@@ -55,7 +54,7 @@ impl Service {
         ensures rising { OnOk result (IsTrue (is_rising (entry_of self.now key.now).olds)) }
     {
         match self.entries.get(key) {
-            Some(entry) => entry.get().least_olds(alloc),
+            Some(entry) => entry.least_olds(alloc),
             None => Ok(Stamps::of(Vec::new(alloc))),
         }
     }
@@ -70,16 +69,6 @@ impl Service {
             Some(entry) => entry.forget(stamps),
             None => {}
         }
-    }
-
-    /// Puts the entry of a key.
-    fn put(&mut self, key: Key, entry: BoxedEntry) -> Result<(), NoMemory>
-        ensures ok { OnOk result (EntryPut (entry_of self.old) (entry_of self.new) key entry) }
-        ensures err { OnErr result (self.new.entries.entries ≡ self.old.entries.entries) }
-        ensures given { self.new.given ≡ self.old.given }
-    {
-        self.entries.insert(key, entry)?;
-        Ok(())
     }
 
     /// What a read is answered.
@@ -112,15 +101,8 @@ impl Service {
         ensures goes_on { GoesOn (Serves self.old) (Serves self.new) (asks.Update client op key.now rec.now) result }
         ensures given { self.new.given ≡ self.old.given }
     {
-        match self.entries.get_mut(key) {
-            Some(entry) => entry.update(alloc, client, op, key, rec),
-            None => {
-                let mut entry = BoxedEntry::new(alloc)?;
-                let says = entry.update(alloc, client, op, key, rec)?;
-                self.put(*key, entry)?;
-                Ok(says)
-            }
-        }
+        let entry = self.entries.get_or_add(alloc, key)?;
+        entry.update(alloc, client, op, key, rec)
     }
 
     /// Serves a watch.
@@ -131,15 +113,8 @@ impl Service {
             (asks.Watch watcher.client watcher.op watcher.key watcher.stamp) result }
         ensures given { self.new.given ≡ self.old.given }
     {
-        match self.entries.get_mut(&watcher.key) {
-            Some(entry) => entry.watch(alloc, watcher),
-            None => {
-                let mut entry = BoxedEntry::new(alloc)?;
-                let says = entry.watch(alloc, watcher)?;
-                self.put(watcher.key, entry)?;
-                Ok(says)
-            }
-        }
+        let entry = self.entries.get_or_add(alloc, &watcher.key)?;
+        entry.watch(alloc, watcher)
     }
 
     /// What a request for the superseded timestamps is answered.
@@ -181,15 +156,6 @@ impl Service {
         self.drop_olds(key, stamps.items());
         Ok(says)
     }
-}
-
-/// One message.
-pub(crate) fn one(alloc: Global, say: MetaSay) -> Result<Vec<MetaSay>, NoMemory>
-    ensures { IfOk result (λ sent. sent.items ≡ say ∷ []) }
-{
-    let mut says = Vec::new(alloc);
-    says.push(say)?;
-    Ok(says)
 }
 
 impl Meta for Service {
@@ -240,14 +206,14 @@ impl Meta for Service {
 
     fn current(&self, key: &Key) -> Option<&Record> {
         match self.entries.get(key) {
-            Some(entry) => entry.get().record(),
+            Some(entry) => entry.record(),
             None => None,
         }
     }
 
     fn is_old(&self, key: &Key, stamp: Stamp) -> bool {
         match self.entries.get(key) {
-            Some(entry) => entry.get().is_old(&stamp),
+            Some(entry) => entry.is_old(&stamp),
             None => false,
         }
     }

@@ -1,6 +1,6 @@
 -- A service without rows and watches has no entry of any key.
 use Rattle.hy_meta.specs.Held.{rows_entry}
-use Rattle.hy_meta.proofs.Entries.{stands-new}
+use Rattle.hy_meta.proofs.Standing.{stands-new}
 use Rattle.hy_meta.proofs.Holds.{no-rows}
 use Rattle.hy_meta.proofs.plain.PlainService.new.Goals as goal
 

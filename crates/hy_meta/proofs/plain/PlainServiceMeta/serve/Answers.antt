@@ -3,7 +3,7 @@ use Rattle.hy_record.specs.declared.message.MetaAsk.TheVariants as asks
 use Rattle.hy_meta.specs.Held.{PlainServes, rows_entry}
 use Rattle.hy_meta.proofs.Addressed.{says-addressed}
 use Rattle.hy_meta.proofs.Holds.{on_any}
-use Rattle.hy_meta.proofs.Entries.{stands-read, stands-olds}
+use Rattle.hy_meta.proofs.Standing.{stands-read, stands-olds}
 use Rattle.hy_meta.proofs.plain.PlainServiceMeta.serve.Goals as goal
 
 pub returns-in-Read-clause-ok : goal.returns-in-Read-clause-ok

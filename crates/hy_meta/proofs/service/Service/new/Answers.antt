@@ -1,8 +1,7 @@
--- A map without entries has none of any key.
-use Rattle.hy_meta.specs.Held.{map_entry}
-use Rattle.hy_meta.proofs.Entries.{stands-new}
-use Rattle.hy_meta.proofs.Maps.{map-unchanged}
+-- Nothing is kept of any key.
+use Rattle.hy_meta.specs.Entries.{entry_at}
+use Rattle.hy_meta.proofs.Standing.{stands-new}
 use Rattle.hy_meta.proofs.service.Service.new.Goals as goal
 
 pub returns-clause-served : goal.returns-clause-served
-returns-clause-served c = stands-new (map_entry _) (map-unchanged _ _ c.new.ensures.empty)
+returns-clause-served c = stands-new (entry_at _) c.new.ensures

@@ -1,50 +1,29 @@
 -- What the entry of the key answers, and becomes.
-use Rattle.std.proofs.Common.{◌≡◌, Some, None, Ok, ◌∙◌}
+use Rattle.std.proofs.Common.{◌≡◌, ap}
+use Rattle.std.specs.Result.{is_ok}
 use Rattle.hy_record.specs.declared.message.MetaAsk.{MetaAsk}
 use Rattle.hy_record.specs.declared.message.MetaAsk.TheVariants as asks
 use Rattle.hy_meta.specs.Entry.{EntryValue, EntryPut}
-use Rattle.hy_meta.specs.Held.{map_entry}
+use Rattle.hy_meta.specs.Entries.{entry_at}
 use Rattle.hy_meta.proofs.Answering.{goes_on, answers-watch}
-use Rattle.hy_meta.proofs.Maps.{map-puts, map-becomes, map-same, entry-found, some-there}
 use Rattle.hy_meta.proofs.Places.{on_ok, on_err}
+use Rattle.hy_meta.proofs.Puts.{put-becomes, put-same}
 use Rattle.hy_meta.proofs.service.Service.watch.Goals as goal
 
-pub returns-in-Some-clause-says : goal.returns-in-Some-clause-says
-returns-in-Some-clause-says c =
-    let entries = c.args.self.now.entries.entries in
-    let key = c.args.watcher.key in
-    let found : c.in-Some.entry.now ≡ map_entry entries key = entry-found entries key (Some c.in-Some.entry.now) c.in-Some.ensures.value in
-    answers-watch (map_entry entries) c.args.watcher.client c.args.watcher.op key c.args.watcher.stamp c.watch.result (rw found at c.watch.ensures.says)
+pub returns-clause-says : goal.returns-clause-says
+returns-clause-says c =
+    answers-watch (entry_at c.args.self.now.entries) c.args.watcher.client c.args.watcher.op c.args.watcher.key c.args.watcher.stamp c.watch.result (rw c.in_ok-entry.ensures.value at c.watch.ensures.says)
 
-pub returns-in-Some-clause-goes_on : goal.returns-in-Some-clause-goes_on
-returns-in-Some-clause-goes_on c =
-    let entries = c.args.self.now.entries.entries in
+pub returns-clause-goes_on : goal.returns-clause-goes_on
+returns-clause-goes_on c =
+    let old = entry_at c.args.self.now.entries in
     let key = c.args.watcher.key in
-    let was : EntryValue = c.in-Some.entry.now in
+    let was : EntryValue = c.in_ok-entry.entry.now in
     let now : EntryValue = c.watch.new.self in
-    let then = (c.get_mut.follows.lender now).entries in
+    let new = entry_at (c.get_or_add.follows.lender now) in
     let ask : MetaAsk = asks.Watch c.args.watcher.client c.args.watcher.op key c.args.watcher.stamp in
-    let found : was ≡ map_entry entries key = entry-found entries key (Some was) c.in-Some.ensures.value in
-    let puts : EntryPut (map_entry entries) (map_entry then) key now = map-puts entries then key now ((c.get_mut.follows.holds now).3 (some-there was _ c.in-Some.ensures.value)).0 in
-    goes_on (map_entry entries) (map_entry then) ask c.watch.result
-    (on_ok c.watch.result c.watch.ensures.ok (λ made. map-becomes (map_entry entries) (map_entry then) ask was now found made puts))
-    (on_err c.watch.result c.watch.ensures.err (λ same. map-same (map_entry entries) (map_entry then) key was now found same puts))
-
-pub returns-in_ok-put-in-None-clause-says : goal.returns-in_ok-put-in-None-clause-says
-returns-in_ok-put-in-None-clause-says c =
-    let entries = c.args.self.now.entries.entries in
-    let key = c.args.watcher.key in
-    let found : c.in_ok-entry-in-None.entry ≡ map_entry entries key = c.in_ok-entry-in-None.ensures ∙ entry-found entries key None c.in-None.ensures.value in
-    answers-watch (map_entry entries) c.args.watcher.client c.args.watcher.op key c.args.watcher.stamp (Ok c.in_ok-says-in-None.says) (rw found at c.in_ok-says-in-None.ensures.says)
-
-pub returns-in_ok-put-in-None-clause-goes_on : goal.returns-in_ok-put-in-None-clause-goes_on
-returns-in_ok-put-in-None-clause-goes_on c =
-    let entries = c.args.self.now.entries.entries in
-    let key = c.args.watcher.key in
-    let was : EntryValue = c.in_ok-entry-in-None.entry in
-    let now : EntryValue = c.watch-in-None.new.self in
-    let then = c.put.new.self.entries.entries in
-    let ask : MetaAsk = asks.Watch c.args.watcher.client c.args.watcher.op key c.args.watcher.stamp in
-    let found : was ≡ map_entry entries key = c.in_ok-entry-in-None.ensures ∙ entry-found entries key None c.in-None.ensures.value in
-    let puts : EntryPut (map_entry entries) (map_entry then) key now = rw c.get_mut.follows.holds-at-none at c.in_ok-put-in-None.ensures.ok in
-    goes_on (map_entry entries) (map_entry then) ask (Ok c.in_ok-says-in-None.says) (map-becomes (map_entry entries) (map_entry then) ask was now found c.in_ok-says-in-None.ensures.ok puts) tt
+    let found : was ≡ old key = c.in_ok-entry.ensures.value in
+    let puts : EntryPut old new key now = c.get_or_add.follows.holds now (ap is_ok c.in_ok-entry.was) in
+    goes_on old new ask c.watch.result
+    (on_ok c.watch.result c.watch.ensures.ok (λ made. put-becomes old new ask was now found made puts))
+    (on_err c.watch.result c.watch.ensures.err (λ same. put-same old new key was now found same puts))

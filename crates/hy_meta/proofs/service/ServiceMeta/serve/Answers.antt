@@ -1,19 +1,20 @@
 -- Requests that change nothing, and whom the answers are for.
 use Rattle.hy_record.specs.declared.message.MetaAsk.TheVariants as asks
-use Rattle.hy_meta.specs.Held.{Serves, map_entry}
+use Rattle.hy_meta.specs.Entries.{entry_at}
+use Rattle.hy_meta.specs.Held.{Serves}
 use Rattle.hy_meta.proofs.Addressed.{says-addressed}
 use Rattle.hy_meta.proofs.Holds.{on_any}
-use Rattle.hy_meta.proofs.Entries.{stands-read, stands-olds}
+use Rattle.hy_meta.proofs.Standing.{stands-read, stands-olds}
 use Rattle.hy_meta.proofs.service.ServiceMeta.serve.Goals as goal
 
 pub returns-in-Read-clause-ok : goal.returns-in-Read-clause-ok
 returns-in-Read-clause-ok c =
-    let entries = map_entry c.args.self.now.entries.entries in
+    let entries = entry_at c.args.self.now.entries in
     rw c.in-Read.is (on_any c.read.result (λ before s. stands-read entries before s c.in-Read.client c.in-Read.op c.in-Read.key))
 
 pub returns-in-Olds-clause-ok : goal.returns-in-Olds-clause-ok
 returns-in-Olds-clause-ok c =
-    let entries = map_entry c.args.self.now.entries.entries in
+    let entries = entry_at c.args.self.now.entries in
     rw c.in-Olds.is (on_any c.olds.result (λ before s. stands-olds entries before s c.in-Olds.client c.in-Olds.op c.in-Olds.key))
 
 pub returns-in-Read-clause-addressed : goal.returns-in-Read-clause-addressed
