@@ -22,17 +22,23 @@ longer (dialled conn) piece = dialled conn
 longer (live conn rest place) piece = live conn (rest ++ piece) place
 longer over piece = over
 
--- the bytes go on the service's stream, or they are a cloud's and are to be judged; those of a connection that does not count do nothing
+-- the bytes go on the service's stream, or they are a cloud's and are to be judged; those of a
+-- connection that does not count do nothing
 abbrev pub fed : DriveState → ℕ → List ℕ → Bool → Option Waiting → DriveState
 fed state conn piece true line = record state { service = longer state.service piece }
 fed state conn piece false (Some waiting) =
-    record (with_line state conn (Some (record { ask = waiting.ask; bytes = waiting.bytes ++ piece }))) { pending = judging conn }
+    record (with_line state conn (Some (record {
+      ask = waiting.ask;
+      bytes = waiting.bytes ++ piece;
+    }))) { pending = judging conn }
 fed state conn piece false None = state
 
--- the service takes and gives nothing more; a cloud that closed before its answer was whole has one that could not be had
+-- the service takes and gives nothing more; a cloud that closed before its answer was whole has
+-- one that could not be had
 abbrev pub closed : DriveState → ℕ → Bool → Option Waiting → DriveState
 closed state conn true line = record state { service = over }
-closed state conn false (Some waiting) = record (with_line state conn None) { inputs = answer_to waiting.ask (Bad 0) ∷ [] }
+closed state conn false (Some waiting) =
+    record (with_line state conn None) { inputs = answer_to waiting.ask (Bad 0) ∷ [] }
 closed state conn false None = state
 
 -- a timeout; there is none before Joined
@@ -42,8 +48,10 @@ timed_out state (Some s) = record state { inputs = Tick ∷ [] }
 
 abbrev pub drive_took : DriveState → Arrived → DriveState
 drive_took state (Opened conn) = state
-drive_took state (Bytes conn piece) = fed state conn piece (is_service state.service conn) (state.lines conn)
-drive_took state (Closed conn) = closed state conn (is_service state.service conn) (state.lines conn)
+drive_took state (Bytes conn piece) =
+    fed state conn piece (is_service state.service conn) (state.lines conn)
+drive_took state (Closed conn) =
+    closed state conn (is_service state.service conn) (state.lines conn)
 drive_took state Quiet = timed_out state state.client
 
 -- an arrival is taken when nothing else is to be done and one is left to take

@@ -43,7 +43,9 @@ abbrev pub behind : ℕ → List ℕ → ℕ → ℕ → Service
 behind conn rest place size = live conn (drop size rest) (min (place + size) (2 ^ 64 - 1))
 
 -- a message in front was given, and its bytes are gone
-pub record Gives (conn : ℕ) (rest : List ℕ) (place : ℕ) (held : Option ServiceLine) (said : Message) : Type 0 where
+pub record Gives (conn : ℕ) (rest : List ℕ) (place : ℕ)
+    (held : Option ServiceLine)
+    (said : Message) : Type 0 where
   pub size : ℕ
   pub front : front_at place rest ≡ message said size
   pub known : IsMessage said
@@ -51,26 +53,36 @@ pub record Gives (conn : ℕ) (rest : List ℕ) (place : ℕ) (held : Option Ser
 
 -- what stands in front of a stream, and what is left of it
 abbrev pub NewsAt : ℕ → List ℕ → ℕ → ServiceLine → News → Type 0
-NewsAt conn rest place new Nothing = (front_at place rest ≡ partial) × HoldsService (Some new) (live conn rest place)
+NewsAt conn rest place new Nothing =
+    (front_at place rest ≡ partial) × HoldsService (Some new) (live conn rest place)
 NewsAt conn rest place new (Said said) = Gives conn rest place (Some new) said
 NewsAt conn rest place new (Wrong wrong) = front_at place rest ≡ fault wrong
 
 abbrev pub Reads : ServiceLine → ServiceLine → News → Type 0
-Reads old new news = (conn : ℕ) (rest : List ℕ) (place : ℕ) → HoldsService (Some old) (live conn rest place) → NewsAt conn rest place new news
+Reads old new news = (conn : ℕ) (rest : List ℕ) (place : ℕ)
+    → HoldsService (Some old) (live conn rest place)
+    → NewsAt conn rest place new news
 
 -- the stream went on
 abbrev pub StreamsOn : Option ServiceLine → Option ServiceLine → List ℕ → Type 0
-StreamsOn old new piece =
-    (conn : ℕ) (rest : List ℕ) (place : ℕ) → HoldsService old (live conn rest place) → front_at place rest ≡ partial → HoldsService new (live conn (rest ++ piece) place)
+StreamsOn old new piece = (conn : ℕ) (rest : List ℕ) (place : ℕ)
+    → HoldsService old (live conn rest place)
+    → front_at place rest ≡ partial
+    → HoldsService new (live conn (rest ++ piece) place)
 
 -- no message was heard: none is whole, or the stream is faulty, and counts no more
 pub data HearsNothing (service : Service) (new : Option ServiceLine) : Type 0 where
   waits : IsHeard service → HoldsService new service → HearsNothing service new
   faulty : (conn : ℕ) (rest : List ℕ) (place : ℕ) (wrong : FrameFault)
-      → service ≡ live conn rest place → front_at place rest ≡ fault wrong → HoldsService new over → HearsNothing service new
+      → service ≡ live conn rest place
+      → front_at place rest ≡ fault wrong
+      → HoldsService new over
+      → HearsNothing service new
 
 -- this message was heard
-pub record HearsMessage (service : Service) (new : Option ServiceLine) (said : Message) : Type 0 where
+pub record HearsMessage (service : Service)
+    (new : Option ServiceLine)
+    (said : Message) : Type 0 where
   pub conn : ℕ
   pub rest : List ℕ
   pub place : ℕ
@@ -87,12 +99,25 @@ Hears old new heard = (service : Service) → HoldsService old service → Hears
 -- ---- the clouds
 
 abbrev pub errand_of : CloudAsk → Errand
-errand_of ask = record { client = ask.client; op = ask.op; cloud = ask.cloud; key = ask.wish.key; stamp = ask.wish.stamp }
+errand_of ask = record {
+  client = ask.client;
+  op = ask.op;
+  cloud = ask.cloud;
+  key = ask.wish.key;
+  stamp = ask.wish.stamp;
+}
 
 -- the answer, as an input of the client
 abbrev pub errand_answer : Errand → CloudSay → Cue
 errand_answer errand say =
-    Cloud (record { client = errand.client; op = errand.op; cloud = errand.cloud; key = errand.key; stamp = errand.stamp; say = say })
+    Cloud (record {
+      client = errand.client;
+      op = errand.op;
+      cloud = errand.cloud;
+      key = errand.key;
+      stamp = errand.stamp;
+      say = say;
+    })
 
 -- the connection of this number, if an answer is awaited on it
 unfoldable pub line_at : CloudLines → ℕ → Option CloudLine
@@ -126,8 +151,13 @@ abbrev pub KeepsOthers : CloudLines → CloudLines → ℕ → Type 0
 KeepsOthers old new conn = (c : ℕ) → (conn == c) ≡ false → line_at new c ≡ line_at old c
 
 -- an answer is awaited on the connection, of which nothing came
-pub record Awaits (old new : CloudLines) (conn : ℕ) (errand : Errand) (asked : WishKind) : Type 0 where
-  pub here : line_at new conn ≡ Some (record { errand = errand; reader = record { asked = asked; progress = Head [] } })
+pub record Awaits (old new : CloudLines) (conn : ℕ)
+    (errand : Errand)
+    (asked : WishKind) : Type 0 where
+  pub here : line_at new conn ≡ Some (record {
+    errand = errand;
+    reader = record { asked = asked; progress = Head [] };
+  })
   pub at : IsSayAt [] (Head [])
   pub others : KeepsOthers old new conn
 
@@ -137,15 +167,19 @@ GoesOn bytes progress None = IsSayAt bytes progress × IsUnfinished progress
 GoesOn bytes progress (Some say) = Unit {0}
 
 -- these bytes came to this
-pub record ReadsTo (bytes : List ℕ) (asked : WishKind) (new : Answering) (answer : Option CloudSay) : Type 0 where
+pub record ReadsTo (bytes : List ℕ) (asked : WishKind)
+    (new : Answering)
+    (answer : Option CloudSay) : Type 0 where
   pub comes : ComesTo asked bytes answer
   pub asked_still : new.asked ≡ asked
   pub goes_on : GoesOn bytes new.progress answer
 
 -- a reader of an answer that was not whole took a piece
 abbrev pub ReadsReply : Answering → Answering → List ℕ → Option CloudSay → Type 0
-ReadsReply old new piece answer =
-    IsUnfinished old.progress → (bytes : List ℕ) → IsSayAt bytes old.progress → ReadsTo (bytes ++ piece) old.asked new answer
+ReadsReply old new piece answer = IsUnfinished old.progress
+    → (bytes : List ℕ)
+    → IsSayAt bytes old.progress
+    → ReadsTo (bytes ++ piece) old.asked new answer
 
 -- a request with more bytes of its answer
 abbrev pub with_more : Waiting → List ℕ → Waiting
@@ -160,7 +194,9 @@ abbrev pub LineBehind : Option CloudLine → Waiting → Option CloudSay → Typ
 LineBehind held waiting None = HoldsLine held (Some waiting)
 LineBehind held waiting (Some say) = HasErrand held waiting.ask
 
-pub record ReadsWaiting (waiting : Waiting) (held : Option CloudLine) (answer : Option CloudSay) : Type 0 where
+pub record ReadsWaiting (waiting : Waiting)
+    (held : Option CloudLine)
+    (answer : Option CloudSay) : Type 0 where
   pub comes : ComesTo (kind_of waiting.ask.wish.act) waiting.bytes answer
   pub line : LineBehind held waiting answer
 
@@ -169,8 +205,12 @@ ReadsAt None piece held answer = (answer ≡ None) × (held ≡ None)
 ReadsAt (Some waiting) piece held answer = ReadsWaiting (with_more waiting piece) held answer
 
 -- the answer on the connection went on
-pub record ReadsLine (old new : CloudLines) (conn : ℕ) (piece : List ℕ) (answer : Option CloudSay) : Type 0 where
-  pub line : (waiting : Option Waiting) → HoldsLine (line_at old conn) waiting → ReadsAt waiting piece (line_at new conn) answer
+pub record ReadsLine (old new : CloudLines) (conn : ℕ)
+    (piece : List ℕ)
+    (answer : Option CloudSay) : Type 0 where
+  pub line : (waiting : Option Waiting)
+      → HoldsLine (line_at old conn) waiting
+      → ReadsAt waiting piece (line_at new conn) answer
   pub others : KeepsOthers old new conn
 
 abbrev pub taken : Option CloudLine → CloudSay → Option Cue
@@ -178,7 +218,9 @@ taken None say = None
 taken (Some line) say = Some (errand_answer line.errand say)
 
 -- the connection counts no more
-pub record TakesLine (old new : CloudLines) (conn : ℕ) (say : CloudSay) (input : Option Cue) : Type 0 where
+pub record TakesLine (old new : CloudLines) (conn : ℕ)
+    (say : CloudSay)
+    (input : Option Cue) : Type 0 where
   pub answers : input ≡ taken (line_at old conn) say
   pub here : line_at new conn ≡ None
   pub others : KeepsOthers old new conn
@@ -191,7 +233,8 @@ pub record Answers (waiting : Waiting) (held : Option CloudLine) (input : Cue) :
   pub gone : held ≡ None
 
 abbrev pub RepliesWaiting : Waiting → Option CloudLine → Option Cue → Type 0
-RepliesWaiting waiting held None = ComesTo (kind_of waiting.ask.wish.act) waiting.bytes None × HoldsLine held (Some waiting)
+RepliesWaiting waiting held None =
+    ComesTo (kind_of waiting.ask.wish.act) waiting.bytes None × HoldsLine held (Some waiting)
 RepliesWaiting waiting held (Some input) = Answers waiting held input
 
 abbrev pub RepliesAt : Option Waiting → List ℕ → Option CloudLine → Option Cue → Type 0
@@ -199,6 +242,10 @@ RepliesAt None piece held input = (input ≡ None) × (held ≡ None)
 RepliesAt (Some waiting) piece held input = RepliesWaiting (with_more waiting piece) held input
 
 -- the bytes of the connection came to this
-pub record ReadsOn (old new : CloudLines) (conn : ℕ) (piece : List ℕ) (input : Option Cue) : Type 0 where
-  pub line : (waiting : Option Waiting) → HoldsLine (line_at old conn) waiting → RepliesAt waiting piece (line_at new conn) input
+pub record ReadsOn (old new : CloudLines) (conn : ℕ)
+    (piece : List ℕ)
+    (input : Option Cue) : Type 0 where
+  pub line : (waiting : Option Waiting)
+      → HoldsLine (line_at old conn) waiting
+      → RepliesAt waiting piece (line_at new conn) input
   pub others : KeepsOthers old new conn

@@ -37,4 +37,7 @@ pub record ComesTo (asked : WishKind) (bytes : List ℕ) (answer : Option CloudS
 -- the connection waits on; or it gave its answer, is to be closed, and counts no more
 abbrev pub judged : DriveState → ℕ → Waiting → Option CloudSay → DriveState
 judged state conn waiting None = record state { pending = nothing }
-judged state conn waiting (Some say) = record (with_line state conn None) { pending = closing conn; inputs = answer_to waiting.ask say ∷ [] }
+judged state conn waiting (Some say) = record (with_line state conn None) {
+  pending = closing conn;
+  inputs = answer_to waiting.ask say ∷ [];
+}

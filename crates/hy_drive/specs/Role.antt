@@ -18,7 +18,8 @@ use Rattle.hy_drive.specs.Going.{DriveGoes}
 
 -- these moves of a client led from one state to another
 abbrev pub DriveLeads : Job → DriveState → List Move → DriveState → Type 0
-DriveLeads job start moves state = Leads start (DriveCalls job) DriveTakes (DriveGoes job) moves state
+DriveLeads job start moves state =
+    Leads start (DriveCalls job) DriveTakes (DriveGoes job) moves state
 
 -- it waits for an arrival that it is to take
 pub record WantsMore (state : DriveState) : Type 0 where
@@ -55,7 +56,9 @@ pub record Ends (state : DriveState) (result : Result Reply DriveFault) : Type 0
   pub not_yet : (have need : ℕ) → result ≡ Err (NotYet have need) → IsUnreplied state have need
 
 -- how it played from a state on, and why it ended
-pub record DrivesOn (job : Job) (start : DriveState) (result : Result Reply DriveFault) (moves : List Move) : Type 0 where
+pub record DrivesOn (job : Job) (start : DriveState)
+    (result : Result Reply DriveFault)
+    (moves : List Move) : Type 0 where
   pub state : DriveState
   pub course : DriveLeads job start moves state
   pub ends : Ends state result

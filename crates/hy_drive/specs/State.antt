@@ -9,8 +9,9 @@ use Rattle.hy_record.specs.declared.turn.Out.{Out}
 use Rattle.hy_mwire.specs.Front.{front_at, partial}
 use Rattle.hy_protocol.specs.Session.{Session}
 
--- the connection to the metadata service: it is not dialled; it is dialled, and Join is due on it; of its stream these bytes are
--- left, from this place on, which no message heard has; or it closed or was faulty, and gives and takes nothing more
+-- the connection to the metadata service: it is not dialled; it is dialled, and Join is due on it;
+-- of its stream these bytes are left, from this place on, which no message heard has; or it closed
+-- or was faulty, and gives and takes nothing more
 pub data Service : Type 0 where
   undialled : Service
   dialled : (conn : ℕ) → Service
@@ -22,15 +23,16 @@ pub record Waiting : Type 0 where
   pub ask : CloudAsk
   pub bytes : List ℕ
 
--- what is due before all else on a connection to a cloud: that its bytes are judged, its request on one that was just dialled, or its close
+-- what is due before all else on a connection to a cloud: that its bytes are judged, its request
+-- on one that was just dialled, or its close
 pub data Pending : Type 0 where
   nothing : Pending
   judging : (conn : ℕ) → Pending
   asking : (conn : ℕ) → (ask : CloudAsk) → Pending
   closing : (conn : ℕ) → Pending
 
--- how it ends: it goes on, the operation has its reply, there is no session left, the value has so many bytes, too many, or a
--- call of the connection to the service failed
+-- how it ends: it goes on, the operation has its reply, there is no session left, the value has so
+-- many bytes, too many, or a call of the connection to the service failed
 pub data Outcome : Type 0 where
   going : Outcome
   replied : (reply : Reply) → Outcome
@@ -38,8 +40,9 @@ pub data Outcome : Type 0 where
   refused : (size : ℕ) → Outcome
   broken : Outcome
 
--- the arrivals that it is still to take, its connections, the client from its Joined on, the messages that are due to be sent,
--- in order, the inputs that are due to be handed to the client, in order, and how it ends
+-- the arrivals that it is still to take, its connections, the client from its Joined on, the
+-- messages that are due to be sent, in order, the inputs that are due to be handed to the client,
+-- in order, and how it ends
 pub record DriveState : Type 0 where
   pub left : ℕ
   pub service : Service
@@ -71,7 +74,14 @@ cloud_port clouds ask = clouds + ask.cloud
 
 -- an answer to the request, as an input of the client
 abbrev pub answer_to : CloudAsk → CloudSay → Cue
-answer_to ask say = Cloud (record { client = ask.client; op = ask.op; cloud = ask.cloud; key = ask.wish.key; stamp = ask.wish.stamp; say = say })
+answer_to ask say = Cloud (record {
+  client = ask.client;
+  op = ask.op;
+  cloud = ask.cloud;
+  key = ask.wish.key;
+  stamp = ask.wish.stamp;
+  say = say;
+})
 
 -- nothing is due before all else, and nothing has ended it
 pub record IsFree (state : DriveState) : Type 0 where

@@ -56,7 +56,9 @@ pending_of None = nothing
 pending_of (Some conn) = closing conn
 
 -- the arrival was taken
-pub record Reacts (job : Job) (state : DriveState) (a : Arrived) (new : Driver) (done : Option ℕ) : Type 0 where
+pub record Reacts (job : Job) (state : DriveState) (a : Arrived)
+    (new : Driver)
+    (done : Option ℕ) : Type 0 where
   pub after : DriveState
   pub judges : Judges job (drive_took state a) after
   pub stands : StandsFor job new after
@@ -65,7 +67,10 @@ pub record Reacts (job : Job) (state : DriveState) (a : Arrived) (new : Driver) 
   pub left : after.left ≡ state.left
 
 abbrev pub Takes : Driver → Driver → Arrived → Option ℕ → Type 0
-Takes old new a done = (job : Job) (state : DriveState) → IsIdle state → StandsFor job old state → Reacts job state a new done
+Takes old new a done = (job : Job) (state : DriveState)
+    → IsIdle state
+    → StandsFor job old state
+    → Reacts job state a new done
 
 -- ---- what comes next
 
@@ -143,34 +148,49 @@ Follows job state new (Err fault) = Refuses job state fault
 
 -- the first input was handed in
 abbrev pub Hands : Job → Driver → Driver → Cue → Result Next DriveFault → Type 0
-Hands job old new input result =
-    (state : DriveState) (later : List Cue) → IsFree state → state.sends ≡ [] → state.inputs ≡ input ∷ later
-    → StandsFor job old (record state { inputs = later }) → Follows job state new result
+Hands job old new input result = (state : DriveState) (later : List Cue)
+    → IsFree state
+    → state.sends ≡ []
+    → state.inputs ≡ input ∷ later
+    → StandsFor job old (record state { inputs = later })
+    → Follows job state new result
 
 -- the message in front was heard
 abbrev pub Tells : Job → Driver → Driver → Message → Result Next DriveFault → Type 0
 Tells job old new said result =
     (state : DriveState) (conn : ℕ) (rest : List ℕ) (place size : ℕ)
-    → IsSettled state → state.service ≡ live conn rest place → front_at place rest ≡ message said size
-    → StandsFor job old (passed state conn rest place size) → Follows job state new result
+    → IsSettled state
+    → state.service ≡ live conn rest place
+    → front_at place rest ≡ message said size
+    → StandsFor job old (passed state conn rest place size)
+    → Follows job state new result
 
 -- with a client, or without one
 abbrev pub HearsAnswer : Driver → Driver → Message → Result Next DriveFault → Type 0
 HearsAnswer old new said result =
     (job : Job) (state : DriveState) (conn : ℕ) (rest : List ℕ) (place size : ℕ) (s : Session)
-    → state.client ≡ Some s → IsSettled state → state.service ≡ live conn rest place → front_at place rest ≡ message said size
-    → StandsFor job old (passed state conn rest place size) → Follows job state new result
+    → state.client ≡ Some s
+    → IsSettled state
+    → state.service ≡ live conn rest place
+    → front_at place rest ≡ message said size
+    → StandsFor job old (passed state conn rest place size)
+    → Follows job state new result
 
 abbrev pub HearsSession : Job → Driver → Driver → Message → Result Next DriveFault → Type 0
 HearsSession job old new said result =
     (state : DriveState) (conn : ℕ) (rest : List ℕ) (place size : ℕ)
-    → state.client ≡ None → IsSettled state → state.service ≡ live conn rest place → front_at place rest ≡ message said size
-    → StandsFor job old (passed state conn rest place size) → Follows job state new result
+    → state.client ≡ None
+    → IsSettled state
+    → state.service ≡ live conn rest place
+    → front_at place rest ≡ message said size
+    → StandsFor job old (passed state conn rest place size)
+    → Follows job state new result
 
 -- the client began the action, or its value is too large
 abbrev pub BeginsTo : Job → DriveState → Driver → Result Next DriveFault → Type 0
 BeginsTo job after new (Ok Again) = (StandsFor job new after) × (after.outcome ≡ going)
-BeginsTo job after new (Err (TooLarge size)) = (after.outcome ≡ refused size) × (too_large job.action ≡ Some size)
+BeginsTo job after new (Err (TooLarge size)) =
+    (after.outcome ≡ refused size) × (too_large job.action ≡ Some size)
 BeginsTo job after new (Err NoMemory) = Unit {0}
 BeginsTo job after new (Err NetFault) = ⊥
 BeginsTo job after new (Err SessionsFull) = ⊥
@@ -180,8 +200,12 @@ BeginsTo job after new (Ok Idle) = ⊥
 BeginsTo job after new (Ok (Replied reply)) = ⊥
 
 abbrev pub Begins : Job → Driver → Driver → ℕ → Result Next DriveFault → Type 0
-Begins job old new number result =
-    (state : DriveState) → state.client ≡ None → state.sends ≡ [] → state.outcome ≡ going → StandsFor job old state → BeginsTo job (invoked job state number) new result
+Begins job old new number result = (state : DriveState)
+    → state.client ≡ None
+    → state.sends ≡ []
+    → state.outcome ≡ going
+    → StandsFor job old state
+    → BeginsTo job (invoked job state number) new result
 
 -- why the client does not begin
 abbrev pub refusal_of : InvokeFault → DriveFault
@@ -197,28 +221,37 @@ ServiceIs service None = service ≡ over
 ServiceIs service (Some conn) = (rest : List ℕ) × (place : ℕ) × (service ≡ live conn rest place)
 
 abbrev pub HasService : Driver → Option ℕ → Type 0
-HasService driver conn = (job : Job) (state : DriveState) → StandsFor job driver state → ServiceIs state.service conn
+HasService driver conn = (job : Job) (state : DriveState)
+    → StandsFor job driver state
+    → ServiceIs state.service conn
 
 abbrev pub Awaited : Driver → Driver → ℕ → Errand → WishKind → Type 0
-Awaited old new conn errand asked =
-    (job : Job) (state : DriveState) (ask : CloudAsk) → StandsFor job old state → errand ≡ errand_of ask → asked ≡ kind_of ask.wish.act
+Awaited old new conn errand asked = (job : Job) (state : DriveState) (ask : CloudAsk)
+    → StandsFor job old state
+    → errand ≡ errand_of ask
+    → asked ≡ kind_of ask.wish.act
     → StandsFor job new (with_line state conn (Some (record { ask = ask; bytes = [] })))
 
 abbrev pub Lost : Driver → Driver → Errand → Type 0
-Lost old new errand =
-    (job : Job) (state : DriveState) (ask : CloudAsk) → StandsFor job old state → errand ≡ errand_of ask
+Lost old new errand = (job : Job) (state : DriveState) (ask : CloudAsk)
+    → StandsFor job old state
+    → errand ≡ errand_of ask
     → StandsFor job new (record state { inputs = state.inputs ++ answer_to ask (Bad 0) ∷ [] })
 
 abbrev pub not_yet_at : Count → DriveFault
 not_yet_at count = NotYet count.have count.need
 
 abbrev pub Counts : Driver → DriveFault → Type 0
-Counts driver fault = (job : Job) (state : DriveState) → StandsFor job driver state → fault ≡ not_yet_at (count_at state.client)
+Counts driver fault = (job : Job) (state : DriveState)
+    → StandsFor job driver state
+    → fault ≡ not_yet_at (count_at state.client)
 
 -- ---- moves
 
 -- the moves led to a state in which it goes on
-pub record MovesOn (job : Job) (state : DriveState) (new : Driver) (moves : List Move) : Type 0 where
+pub record MovesOn (job : Job) (state : DriveState)
+    (new : Driver)
+    (moves : List Move) : Type 0 where
   pub after : DriveState
   pub course : DriveLeads job state moves after
   pub free : IsFree after
@@ -226,7 +259,9 @@ pub record MovesOn (job : Job) (state : DriveState) (new : Driver) (moves : List
   pub left : after.left ≡ state.left
 
 -- the moves led to a state that shows why it ended
-pub record Stops (job : Job) (state : DriveState) (fault : DriveFault) (moves : List Move) : Type 0 where
+pub record Stops (job : Job) (state : DriveState)
+    (fault : DriveFault)
+    (moves : List Move) : Type 0 where
   pub after : DriveState
   pub course : DriveLeads job state moves after
   pub shows : FaultAt fault after
@@ -237,14 +272,18 @@ Moved job state new (Err fault) moves = Stops job state fault moves
 
 -- the message was sent
 abbrev pub SendsOut : Job → Driver → Driver → Out → Result Unit DriveFault → List Move → Type 0
-SendsOut job old new out result moves =
-    (state : DriveState) (later : List Out) → IsFree state → state.sends ≡ out ∷ later → StandsFor job old (record state { sends = later })
+SendsOut job old new out result moves = (state : DriveState) (later : List Out)
+    → IsFree state
+    → state.sends ≡ out ∷ later
+    → StandsFor job old (record state { sends = later })
     → Moved job state new result moves
 
 abbrev pub AsksService : Driver → MetaAsk → Result Unit DriveFault → List Move → Type 0
-AsksService driver ask result moves = (job : Job) → SendsOut job driver driver (outs.Meta ask) result moves
+AsksService driver ask result moves =
+    (job : Job) → SendsOut job driver driver (outs.Meta ask) result moves
 
-abbrev pub AsksCloud : Job → Driver → Driver → CloudAsk → Result Unit DriveFault → List Move → Type 0
+abbrev pub AsksCloud :
+    Job → Driver → Driver → CloudAsk → Result Unit DriveFault → List Move → Type 0
 AsksCloud job old new ask result moves = SendsOut job old new (outs.Cloud ask) result moves
 
 abbrev pub StandsOn : Driver → Driver → Type 0
@@ -259,12 +298,15 @@ pub record Waits (job : Job) (state : DriveState) (new : Driver) (moves : List M
   pub left : after.left ≡ state.left
 
 -- the operation has its reply
-pub record Finishes (job : Job) (state : DriveState) (reply : Reply) (moves : List Move) : Type 0 where
+pub record Finishes (job : Job) (state : DriveState)
+    (reply : Reply)
+    (moves : List Move) : Type 0 where
   pub after : DriveState
   pub course : DriveLeads job state moves after
   pub replies : after.outcome ≡ replied reply
 
-abbrev pub SettlesTo : Job → DriveState → Driver → Result (Option Reply) DriveFault → List Move → Type 0
+abbrev pub SettlesTo :
+    Job → DriveState → Driver → Result (Option Reply) DriveFault → List Move → Type 0
 SettlesTo job state new (Ok None) moves = Waits job state new moves
 SettlesTo job state new (Ok (Some reply)) moves = Finishes job state reply moves
 SettlesTo job state new (Err fault) moves = Stops job state fault moves
@@ -277,7 +319,10 @@ GoesTo job state new (Err fault) moves = Stops job state fault moves
 
 -- what was to be done next was done
 abbrev pub Goes : Job → Driver → Driver → Result Step DriveFault → List Move → Type 0
-Goes job old new result moves = (state : DriveState) → IsFree state → StandsFor job old state → GoesTo job state new result moves
+Goes job old new result moves = (state : DriveState)
+    → IsFree state
+    → StandsFor job old state
+    → GoesTo job state new result moves
 
 -- what is known of a step without a net that tells
 abbrev pub GoesSoundly : Job → Driver → Result Step DriveFault → Type 0
@@ -288,7 +333,10 @@ GoesSoundly job new (Err fault) = IsLarge job fault
 
 -- all that was to be done was done
 abbrev pub Settles : Job → Driver → Driver → Result (Option Reply) DriveFault → List Move → Type 0
-Settles job old new result moves = (state : DriveState) → IsFree state → StandsFor job old state → SettlesTo job state new result moves
+Settles job old new result moves = (state : DriveState)
+    → IsFree state
+    → StandsFor job old state
+    → SettlesTo job state new result moves
 
 -- what is known of the end without a net that tells
 abbrev pub SettlesSoundly : Job → Driver → Result (Option Reply) DriveFault → Type 0
@@ -303,10 +351,14 @@ Closes (Some conn) moves = moves ≡ called (close conn) ∷ []
 
 -- the service was dialled, and sent Join
 abbrev pub Joins : Job → Result ℕ DriveFault → List Move → Type 0
-Joins job (Ok conn) moves = (arrivals : ℕ) → DriveLeads job (drive_begun arrivals) moves (joined_state arrivals conn)
+Joins job (Ok conn) moves =
+    (arrivals : ℕ) → DriveLeads job (drive_begun arrivals) moves (joined_state arrivals conn)
 Joins job (Err fault) moves = (arrivals : ℕ) → Stops job (drive_begun arrivals) fault moves
 
 -- how it played from any state that it stands for and waits in
 abbrev pub PlaysOn : Job → Driver → ℕ → Result Reply DriveFault → List Move → Type 0
-PlaysOn job old arrivals result moves =
-    (state : DriveState) → IsIdle state → StandsFor job old state → state.left ≡ arrivals → DrivesOn job state result moves
+PlaysOn job old arrivals result moves = (state : DriveState)
+    → IsIdle state
+    → StandsFor job old state
+    → state.left ≡ arrivals
+    → DrivesOn job state result moves

@@ -11,7 +11,8 @@ requests_of (Some answer) = to_send answer.conn answer.bytes ∷ to_close answer
 -- the calls that were made, the newest first
 abbrev pub made : Option Answer → Bool → List Move
 made None sent = []
-made (Some answer) sent = called (close answer.conn) ∷ called (send answer.conn answer.bytes sent) ∷ []
+made (Some answer) sent =
+    called (close answer.conn) ∷ called (send answer.conn answer.bytes sent) ∷ []
 
 -- the answer was sent, whether or not it could be, and its connection was closed
 pub record Answers (answer : Option Answer) (moves : List Move) : Type 0 where

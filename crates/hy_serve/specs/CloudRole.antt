@@ -1,4 +1,5 @@
--- The cloud's side of the protocol over a net: one request a connection, which is answered, and the connection closed.
+-- The cloud's side of the protocol over a net: one request a connection, which is answered, and the
+-- connection closed.
 use Rattle.std.specs.Prelude.{◌≡◌, ◌==◌, ℕ, suc, Bool, true, false, ◌||◌, List, [], ◌∷◌, ◌++◌, length, nat_lt, Option, Some, None, Result, OnOk, IsErrOf, ◌⊎◌, if◌then◌else◌}
 use Rattle.hy_base.specs.declared.arrival.Arrived.{Arrived}
 use Rattle.hy_base.specs.declared.arrival.Arrived.TheVariants.{Opened, Bytes, Closed, Quiet}
@@ -26,8 +27,9 @@ pub data Line : Type 0 where
   asking : (bytes : List ℕ) → Line
   over : Line
 
--- where a cloud's server is: the arrivals that it is still to take, the connections, the one whose bytes are to be judged, the
--- requests that it served, the newest first, the calls that are due, and whether it could not listen
+-- where a cloud's server is: the arrivals that it is still to take, the connections, the one whose
+-- bytes are to be judged, the requests that it served, the newest first, the calls that are due,
+-- and whether it could not listen
 pub record CloudState : Type 0 where
   pub left : ℕ
   pub lines : ℕ → Line
@@ -37,7 +39,14 @@ pub record CloudState : Type 0 where
   pub broken : Bool
 
 abbrev pub cloud_begun : ℕ → ℕ → CloudState
-cloud_begun port arrivals = record { left = arrivals; lines = λ conn. unopened; judging = None; wishes = []; due = to_listen port ∷ []; broken = false }
+cloud_begun port arrivals = record {
+  left = arrivals;
+  lines = λ conn. unopened;
+  judging = None;
+  wishes = [];
+  due = to_listen port ∷ [];
+  broken = false;
+}
 
 -- no call is due, and nothing is to be judged
 pub record IsIdle (state : CloudState) : Type 0 where
@@ -78,7 +87,8 @@ closed over = over
 -- the bytes of a connection that asks go on, and are to be judged
 abbrev pub fed : CloudState → ℕ → List ℕ → Line → CloudState
 fed state conn piece unopened = state
-fed state conn piece (asking bytes) = record (with_line state conn (asking (bytes ++ piece))) { judging = Some conn }
+fed state conn piece (asking bytes) =
+    record (with_line state conn (asking (bytes ++ piece))) { judging = Some conn }
 fed state conn piece over = state
 
 abbrev pub cloud_took : CloudState → Arrived → CloudState
@@ -104,7 +114,8 @@ pub data Outcome : Type 0 where
 
 abbrev pub outcome_of : Progress AskHead → Outcome
 outcome_of (Head front) = waits
-outcome_of (Body head body) = if nat_lt (length body) head.size then waits else asks (wish_of head body)
+outcome_of (Body head body) =
+    if nat_lt (length body) head.size then waits else asks (wish_of head body)
 outcome_of Given = waits
 outcome_of (Broken wrong) = wrongs wrong
 
@@ -122,12 +133,17 @@ answer_on conn say = to_send conn (say_bytes say) ∷ to_close conn ∷ []
 abbrev pub answered : CloudState → ℕ → CloudSay → CloudState
 answered state conn say = record (with_line state conn over) { due = answer_on conn say }
 
--- a whole request is served and answered, and a fault is answered by its status; the connection counts no more
+-- a whole request is served and answered, and a fault is answered by its status; the connection
+-- counts no more
 abbrev pub cloud_judged : CloudState → ℕ → Outcome → CloudState
 cloud_judged state conn waits = record state { judging = None }
 cloud_judged state conn (asks wish) =
-    answered (record state { judging = None; wishes = wish ∷ state.wishes }) conn (cloud_answer state.wishes wish)
-cloud_judged state conn (wrongs wrong) = answered (record state { judging = None }) conn (Bad (status_of wrong))
+    answered
+    (record state { judging = None; wishes = wish ∷ state.wishes })
+    conn
+    (cloud_answer state.wishes wish)
+cloud_judged state conn (wrongs wrong) =
+    answered (record state { judging = None }) conn (Bad (status_of wrong))
 
 -- the bytes that were to be judged were judged
 pub record CloudGoes (before after : CloudState) : Type 0 where
@@ -141,7 +157,8 @@ pub record CloudGoes (before after : CloudState) : Type 0 where
 
 -- these moves of a cloud's server led to this state
 abbrev pub CloudLeads : ℕ → ℕ → List Move → CloudState → Type 0
-CloudLeads port arrivals moves state = Leads (cloud_begun port arrivals) CloudCalls CloudTakes CloudGoes moves state
+CloudLeads port arrivals moves state =
+    Leads (cloud_begun port arrivals) CloudCalls CloudTakes CloudGoes moves state
 
 -- ---- how it ends
 
@@ -157,7 +174,9 @@ pub record IsDone (state : CloudState) : Type 0 where
   pub none : state.left ≡ 0
 
 -- how a cloud's server played, and why it ended
-pub record ServesCloud (port arrivals : ℕ) (result : Result Unit ServeFault) (moves : List Move) : Type 0 where
+pub record ServesCloud (port arrivals : ℕ)
+    (result : Result Unit ServeFault)
+    (moves : List Move) : Type 0 where
   pub state : CloudState
   pub course : CloudLeads port arrivals moves state
   pub ok : OnOk result (IsDone state)

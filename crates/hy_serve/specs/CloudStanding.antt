@@ -71,7 +71,9 @@ IsStocked cloud = (wishes : List Wish) × Stocks cloud wishes
 
 -- one connection changed, and nothing else
 pub record SetsLine (old new : CloudServer) (conn : ℕ) (change : Line → Line) : Type 0 where
-  pub line : (line : Line) → HoldsLine (line_at old conn) line → HoldsLine (line_at new conn) (change line)
+  pub line : (line : Line)
+      → HoldsLine (line_at old conn) line
+      → HoldsLine (line_at new conn) (change line)
   pub others : (c : ℕ) → (conn == c) ≡ false → line_at new c ≡ line_at old c
   pub cloud : new.cloud ≡ old.cloud
 
@@ -107,7 +109,10 @@ pub record ReadsTo (bytes : List ℕ) (progress : Progress AskHead) (reading : R
 
 -- a reader of a request that was not whole took a piece
 abbrev pub Reads : Progress AskHead → Progress AskHead → List ℕ → Reading → Type 0
-Reads old new piece reading = IsWaiting old → (bytes : List ℕ) → IsAskAt bytes old → ReadsTo (bytes ++ piece) new reading
+Reads old new piece reading = IsWaiting old
+    → (bytes : List ℕ)
+    → IsAskAt bytes old
+    → ReadsTo (bytes ++ piece) new reading
 
 -- the bytes of a connection that asks came to this; those of another count for nothing
 pub record ReadsAsking (bytes : List ℕ) (held : HeldLine) (reading : Reading) : Type 0 where
@@ -120,12 +125,18 @@ ReadsLine unopened piece held reading = (reading ≡ Partial) × HoldsLine held 
 ReadsLine (asking bytes) piece held reading = ReadsAsking (bytes ++ piece) held reading
 ReadsLine over piece held reading = (reading ≡ Partial) × HoldsLine held over
 
-abbrev pub ReadsOn : Option (Progress AskHead) → Option (Progress AskHead) → List ℕ → Reading → Type 0
-ReadsOn old new piece reading = (line : Line) → HoldsLine (Some old) line → ReadsLine line piece (Some new) reading
+abbrev pub ReadsOn :
+    Option (Progress AskHead) → Option (Progress AskHead) → List ℕ → Reading → Type 0
+ReadsOn old new piece reading =
+    (line : Line) → HoldsLine (Some old) line → ReadsLine line piece (Some new) reading
 
 -- the bytes of this connection went on, and nothing else
-pub record ReadsAt (old new : CloudServer) (conn : ℕ) (piece : List ℕ) (reading : Reading) : Type 0 where
-  pub line : (line : Line) → HoldsLine (line_at old conn) line → ReadsLine line piece (line_at new conn) reading
+pub record ReadsAt (old new : CloudServer) (conn : ℕ)
+    (piece : List ℕ)
+    (reading : Reading) : Type 0 where
+  pub line : (line : Line)
+      → HoldsLine (line_at old conn) line
+      → ReadsLine line piece (line_at new conn) reading
   pub others : (c : ℕ) → (conn == c) ≡ false → line_at new c ≡ line_at old c
   pub cloud : new.cloud ≡ old.cloud
 
@@ -141,10 +152,16 @@ wishes_behind wishes (asks wish) = wish ∷ wishes
 wishes_behind wishes (wrongs wrong) = wishes
 
 -- what was read was answered, and nothing but the objects changed
-pub record Replies (old new : CloudServer) (conn : ℕ) (reading : Reading) (answer : Option Answer) : Type 0 where
+pub record Replies (old new : CloudServer) (conn : ℕ)
+    (reading : Reading)
+    (answer : Option Answer) : Type 0 where
   pub lines : new.lines ≡ old.lines
-  pub answers : (wishes : List Wish) → Stocks old.cloud wishes → requests_of answer ≡ replies wishes conn (outcome reading)
-  pub serves : (wishes : List Wish) → Stocks old.cloud wishes → Stocks new.cloud (wishes_behind wishes (outcome reading))
+  pub answers : (wishes : List Wish)
+      → Stocks old.cloud wishes
+      → requests_of answer ≡ replies wishes conn (outcome reading)
+  pub serves : (wishes : List Wish)
+      → Stocks old.cloud wishes
+      → Stocks new.cloud (wishes_behind wishes (outcome reading))
 
 -- ---- a whole arrival
 
@@ -154,7 +171,9 @@ pub data Settles (mid : CloudState) : CloudState → Type 0 where
   judges : (after : CloudState) → CloudGoes mid after → Settles mid after
 
 -- the arrival was taken, and the answer is due
-pub record Reacts (state : CloudState) (a : Arrived) (server : CloudServer) (answer : Option Answer) : Type 0 where
+pub record Reacts (state : CloudState) (a : Arrived)
+    (server : CloudServer)
+    (answer : Option Answer) : Type 0 where
   pub after : CloudState
   pub settles : Settles (cloud_took state a) after
   pub stands : StandsFor server after

@@ -15,7 +15,9 @@ pub record Continues (state after : MetaState) : Type 0 where
   pub reading : after.reading ≡ state.reading
 
 -- the moves led to a state in which these calls are still due
-pub record Called (port arrivals : ℕ) (server : MetaServer) (state : MetaState) (later : List Request) (moves : List Move) : Type 0 where
+pub record Called (port arrivals : ℕ) (server : MetaServer) (state : MetaState)
+    (later : List Request)
+    (moves : List Move) : Type 0 where
   pub after : MetaState
   pub course : MetaLeads port arrivals moves after
   pub stands : StandsFor server after
@@ -32,12 +34,14 @@ Makes old new requests later moves = (port arrivals : ℕ) (before : List Move) 
 
 -- the first of the calls that were due was made, whatever is due later
 abbrev pub MakesFirst : MetaServer → MetaServer → Request → List Move → Type 0
-MakesFirst old new request moves = (later : List Request) → Makes old new (request ∷ later) later moves
+MakesFirst old new request moves =
+    (later : List Request) → Makes old new (request ∷ later) later moves
 
 -- ---- a connection that is read on
 
 -- the moves led to a state in which the connection is to be read on
-pub record Continued (port arrivals conn : ℕ) (server : MetaServer) (state : MetaState) (moves : List Move) : Type 0 where
+pub record Continued (port arrivals conn : ℕ) (server : MetaServer) (state : MetaState)
+    (moves : List Move) : Type 0 where
   pub after : MetaState
   pub course : MetaLeads port arrivals moves after
   pub stands : StandsFor server after
@@ -62,7 +66,9 @@ pub record Settles (server : MetaServer) (state after : MetaState) : Type 0 wher
   pub broken : after.broken ≡ state.broken
 
 -- the moves led to a state; to one in which nothing is to be read, unless memory ran out
-pub record Settled (port arrivals : ℕ) (server : MetaServer) (state : MetaState) (result : Result Unit NoMemory) (moves : List Move) : Type 0 where
+pub record Settled (port arrivals : ℕ) (server : MetaServer) (state : MetaState)
+    (result : Result Unit NoMemory)
+    (moves : List Move) : Type 0 where
   pub after : MetaState
   pub course : MetaLeads port arrivals moves after
   pub ok : OnOk result (Settles server state after)
@@ -78,8 +84,11 @@ ReadsAll old new reading result moves = (port arrivals : ℕ) (before : List Mov
 
 -- ---- between two arrivals
 
--- these moves led to a state that the server stands for, in which nothing is due and so many of the arrivals were taken
-pub record MetaWaits (port arrivals taken : ℕ) (server : MetaServer) (moves : List Move) : Type 0 where
+-- these moves led to a state that the server stands for, in which nothing is due and so many of the
+-- arrivals were taken
+pub record MetaWaits (port arrivals taken : ℕ)
+    (server : MetaServer)
+    (moves : List Move) : Type 0 where
   pub state : MetaState
   pub course : MetaLeads port arrivals moves state
   pub idle : IsIdle state

@@ -1,4 +1,5 @@
--- The metadata service's side of the protocol over a net: each connection is one client's, which joins by its first message.
+-- The metadata service's side of the protocol over a net: each connection is one client's, which
+-- joins by its first message.
 use Rattle.std.specs.Prelude.{◌≡◌, ◌==◌, ℕ, suc, Bool, true, false, List, [], ◌∷◌, filter, Option, Some, None, Result, Ok, Err, OnOk, IsErrOf, ◌⊎◌, if◌then◌else◌}
 use Rattle.std.specs.List.{flat_map}
 use Rattle.hy_base.specs.declared.arrival.Arrived.{Arrived}
@@ -25,8 +26,8 @@ use Rattle.hy_serve.specs.Course.{Leads}
 
 -- ---- connections
 
--- a connection: it was never opened; it is in this session, and has this stream, of which the messages in front were taken; or nothing
--- more of it counts
+-- a connection: it was never opened; it is in this session, and has this stream, of which the
+-- messages in front were taken; or nothing more of it counts
 pub data Line : Type 0 where
   unopened : Line
   talking : (session : Session) → (stream : Unread) → Line
@@ -64,7 +65,8 @@ is_talking over = false
 abbrev pub step_of_client : ℕ → MetaAsk → Step
 step_of_client client ask = if (asker_of ask).client == client then Asks ask else Ends
 
--- the first message of a connection joins, and each later one is a request of the client that joined; any other ends the connection
+-- the first message of a connection joins, and each later one is a request of the client that
+-- joined; any other ends the connection
 abbrev pub step_by : Session → Message → Step
 step_by Unasked Join = Joins
 step_by Unasked (Joined client) = Ends
@@ -99,14 +101,16 @@ line_behind session stream (Asks ask) = talking session stream
 -- the connection behind it
 abbrev pub next_line : Line → Line
 next_line unopened = unopened
-next_line (talking session stream) = line_behind session (after_next stream) (step_of session (next_answer stream))
+next_line (talking session stream) =
+    line_behind session (after_next stream) (step_of session (next_answer stream))
 next_line over = over
 
 -- ---- states
 
--- where the server is: the arrivals that it is still to take, the connections, the one that is to be read on, how many sessions were given,
--- the connection on which each client joined, the requests that were served, the newest first, the calls that are due, and whether it
--- could not listen
+-- where the server is: the arrivals that it is still to take, the connections, the one that is to
+-- be read on, how many sessions were given, the connection on which each client joined, the
+-- requests that were served, the newest first, the calls that are due, and whether it could not
+-- listen
 pub record MetaState : Type 0 where
   pub left : ℕ
   pub lines : ℕ → Line
@@ -153,7 +157,9 @@ deliverable lines requests = filter (is_deliverable lines) requests
 
 -- nothing more of the connection counts; it is to be closed, and what was due on it falls away
 abbrev pub cut : MetaState → ℕ → List Request → MetaState
-cut state conn later = record (with_line state conn over) { due = to_close conn ∷ deliverable (with_line state conn over).lines later }
+cut state conn later = record (with_line state conn over) {
+  due = to_close conn ∷ deliverable (with_line state conn over).lines later;
+}
 
 -- behind a call, where these are due later; a connection on which bytes could not be sent is cut
 abbrev pub meta_called : MetaState → Call → List Request → MetaState
@@ -174,7 +180,8 @@ pub record MetaCalls (before : MetaState) (call : Call) (after : MetaState) : Ty
 
 abbrev pub meta_took : MetaState → Arrived → MetaState
 meta_took state (Opened conn) = with_line state conn (opened (state.lines conn))
-meta_took state (Bytes conn piece) = record (with_line state conn (fed piece (state.lines conn))) { reading = Some conn }
+meta_took state (Bytes conn piece) =
+    record (with_line state conn (fed piece (state.lines conn))) { reading = Some conn }
 meta_took state (Closed conn) = with_line state conn (closed (state.lines conn))
 meta_took state Quiet = state
 
@@ -197,14 +204,16 @@ letters_for homes says = flat_map (λ say. letter_to (homes (addressee_of say).c
 
 -- a client gets a session, or there is none left
 abbrev pub joined : MetaState → ℕ → Result ℕ SessionsFull → MetaState
-joined state conn (Ok client) = record (with_line state conn (in_session (Of client) (state.lines conn))) {
-  given = sessions_after state.given;
-  homes = λ c. if client == c then Some conn else state.homes c;
-  due = to_send conn (frame_of (Joined client)) ∷ [];
-}
-joined state conn (Err full) = record (with_line state conn (in_session Refused (state.lines conn))) {
-  due = to_send conn (frame_of Full) ∷ [];
-}
+joined state conn (Ok client) =
+    record (with_line state conn (in_session (Of client) (state.lines conn))) {
+      given = sessions_after state.given;
+      homes = λ c. if client == c then Some conn else state.homes c;
+      due = to_send conn (frame_of (Joined client)) ∷ [];
+    }
+joined state conn (Err full) =
+    record (with_line state conn (in_session Refused (state.lines conn))) {
+      due = to_send conn (frame_of Full) ∷ [];
+    }
 
 -- a request is served, and its answers go to the open connections of their clients
 abbrev pub served : MetaState → MetaAsk → MetaState
@@ -221,7 +230,11 @@ stepped state conn (Asks ask) = served state ask
 
 -- what comes next on the connection was read
 abbrev pub meta_read : MetaState → ℕ → MetaState
-meta_read state conn = stepped (with_line state conn (next_line (state.lines conn))) conn (next_step (state.lines conn))
+meta_read state conn =
+    stepped
+    (with_line state conn (next_line (state.lines conn)))
+    conn
+    (next_step (state.lines conn))
 
 -- the connection that is to be read on was read on, after what was due before
 pub record MetaGoes (before after : MetaState) : Type 0 where
@@ -232,7 +245,8 @@ pub record MetaGoes (before after : MetaState) : Type 0 where
 
 -- these moves of the server led to this state
 abbrev pub MetaLeads : ℕ → ℕ → List Move → MetaState → Type 0
-MetaLeads port arrivals moves state = Leads (meta_begun port arrivals) MetaCalls MetaTakes MetaGoes moves state
+MetaLeads port arrivals moves state =
+    Leads (meta_begun port arrivals) MetaCalls MetaTakes MetaGoes moves state
 
 -- ---- how it ends
 
@@ -248,7 +262,9 @@ pub record IsDone (state : MetaState) : Type 0 where
   pub none : state.left ≡ 0
 
 -- how the server played, and why it ended
-pub record ServesMeta (port arrivals : ℕ) (result : Result Unit ServeFault) (moves : List Move) : Type 0 where
+pub record ServesMeta (port arrivals : ℕ)
+    (result : Result Unit ServeFault)
+    (moves : List Move) : Type 0 where
   pub state : MetaState
   pub course : MetaLeads port arrivals moves state
   pub ok : OnOk result (IsDone state)

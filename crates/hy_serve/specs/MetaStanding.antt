@@ -81,7 +81,10 @@ Answers old new conn step turn = (state : MetaState)
 
 -- what comes next on the connection was read, and is due
 abbrev pub ReadsNext : MetaServer → MetaServer → ℕ → Turn → Type 0
-ReadsNext old new conn turn = (state : MetaState) → IsReading conn state → StandsFor old state → Turns (meta_read state conn) conn new turn
+ReadsNext old new conn turn = (state : MetaState)
+    → IsReading conn state
+    → StandsFor old state
+    → Turns (meta_read state conn) conn new turn
 
 -- the arrival was taken, and this is to be read behind it
 pub record Took (after : MetaState) (server : MetaServer) (reading : Option ℕ) : Type 0 where
@@ -89,7 +92,10 @@ pub record Took (after : MetaState) (server : MetaServer) (reading : Option ℕ)
   pub is : after.reading ≡ reading
 
 abbrev pub TakesIn : MetaServer → MetaServer → Arrived → Option ℕ → Type 0
-TakesIn old new a reading = (state : MetaState) → state.reading ≡ None → StandsFor old state → Took (meta_took state a) new reading
+TakesIn old new a reading = (state : MetaState)
+    → state.reading ≡ None
+    → StandsFor old state
+    → Took (meta_took state a) new reading
 
 -- ---- how much is to be read
 
