@@ -13,12 +13,12 @@ use Rattle.hy_drive.specs.declared.driver.Driver.{Driver}
 use Rattle.hy_drive.specs.declared.fault.DriveFault.{DriveFault}
 use Rattle.hy_drive.specs.declared.fault.DriveFault.TheVariants.{NetFault, SessionsFull, TooLarge, NotYet, NoMemory}
 use Rattle.hy_drive.specs.declared.job.Job.{Job}
-use Rattle.hy_drive.specs.State.{DriveState, Pending, live, dialled, nothing, closing, going, replied, refused, broken, drive_begun, IsFree, IsSettled, IsIdle}
+use Rattle.hy_drive.specs.State.{DriveState, Pending, nothing, going, replied, refused, drive_begun, IsFree, IsIdle}
 use Rattle.hy_drive.specs.Calling.{dials_service, joins, closes, service_dialled, join_sent}
 use Rattle.hy_drive.specs.Arriving.{drive_took}
-use Rattle.hy_drive.specs.Role.{DriveLeads, DrivesOn, Drives, Ends, WantsMore, Count, count_at}
+use Rattle.hy_drive.specs.Role.{DriveLeads, Drives, Ends, Count, count_at}
 use Rattle.hy_drive.specs.Standing.{StandsFor, IsSome, IsResting}
-use Rattle.hy_drive.specs.Stepping.{joined_state, Joins, Judges, stays, judges, pending_of, Reacts, Takes, Closes, Stops, FaultAt, Waits, Finishes, Settles, SettlesTo, PlaysOn, Counts, not_yet_at}
+use Rattle.hy_drive.specs.Stepping.{joined_state, Joins, Judges, stays, judges, pending_of, Takes, Closes, FaultAt, Settles, PlaysOn, Counts, not_yet_at}
 use Rattle.hy_drive.proofs.Rounds.{leads-then}
 use Rattle.hy_drive.proofs.Sending.{again}
 

@@ -1,7 +1,7 @@
 -- Lemmas on courses.
-use Rattle.std.proofs.Common.{List, [], ◌∷◌, ◌++◌}
+use Rattle.std.proofs.Common.{List, ◌++◌}
 use Rattle.hy_base.specs.declared.arrival.Arrived.{Arrived}
-use Rattle.hy_base.specs.Moves.{Move, Call, arrived, called}
+use Rattle.hy_base.specs.Moves.{Move, Call}
 use Rattle.hy_serve.specs.Course.{Leads, begins, calls, takes, goes}
 
 -- one course, and another from where it led

@@ -1,5 +1,5 @@
 -- Lemmas on what a client over a net does next.
-use Rattle.std.proofs.Common.{◌≡◌, ℕ, ◌<◌, Bool, true, false, nat_lt, List, [], ◌∷◌, ◌++◌, length, Option, Some, None, is_some, Result, Ok, Err, refl, sym, ap, subst, ◌∙◌}
+use Rattle.std.proofs.Common.{◌≡◌, ℕ, Bool, true, false, nat_lt, List, [], ◌∷◌, length, Option, Some, None, is_some, Result, Ok, Err, refl, sym, ap, subst, ◌∙◌}
 use Rattle.std.specs.Prelude.{All, IfSome, if◌then◌else◌}
 use Rattle.hy_base.specs.declared.limits.TheConstants.{MAX_VALUE}
 use Rattle.hy_base.specs.Shape.{IsShape}
@@ -7,13 +7,8 @@ use Rattle.hy_record.specs.declared.action.Action.{Action}
 use Rattle.hy_record.specs.declared.action.Action.TheVariants as asked
 use Rattle.hy_record.specs.declared.action.Reply.{Reply}
 use Rattle.hy_record.specs.declared.turn.Cue.{Cue}
-use Rattle.hy_record.specs.declared.turn.Cue.TheVariants as cues
 use Rattle.hy_record.specs.declared.turn.Out.{Out}
 use Rattle.hy_record.specs.declared.turn.Turn.{Turn}
-use Rattle.hy_record.specs.declared.message.MetaSay.{MetaSay}
-use Rattle.hy_mwire.specs.declared.message.Message.{Message}
-use Rattle.hy_mwire.specs.declared.message.Message.TheVariants.{Join, Joined, Full, Ask, Say}
-use Rattle.hy_mwire.specs.Front.{front_at, message}
 use Rattle.hy_protocol.specs.Session.{Session, fresh_session, is_running, session_after, session_turn, turn_sends, turn_reply, session_invoked, invoked_sends, takes}
 use Rattle.hy_client.specs.declared.client.Client.{Client}
 use Rattle.hy_client.specs.declared.fault.InvokeFault.{InvokeFault}
@@ -22,18 +17,15 @@ use Rattle.hy_client.specs.Clients.{StandsForSession, invoke_refusal}
 use Rattle.hy_client.specs.Sizes.{size_refusal}
 use Rattle.hy_drive.specs.declared.cloud_lines.CloudLines.{CloudLines}
 use Rattle.hy_drive.specs.declared.driver.Driver.{Driver}
-use Rattle.hy_drive.specs.declared.driver.Next.{Next}
-use Rattle.hy_drive.specs.declared.driver.Next.TheVariants.{Send, Again, Idle, Replied}
-use Rattle.hy_drive.specs.declared.fault.DriveFault.{DriveFault}
-use Rattle.hy_drive.specs.declared.fault.DriveFault.TheVariants.{NetFault, SessionsFull, TooLarge, NotYet, NoMemory}
+use Rattle.hy_drive.specs.declared.driver.Next.TheVariants.{Again}
 use Rattle.hy_drive.specs.declared.job.Job.{Job}
 use Rattle.hy_drive.specs.declared.service_line.ServiceLine.{ServiceLine}
-use Rattle.hy_drive.specs.State.{DriveState, Service, Waiting, live, over, nothing, going, replied, full, refused, IsFree, IsSettled, IsIdle, IsHeard}
-use Rattle.hy_drive.specs.Going.{DriveGoes, hands, hears, breaks, too_large, turned, turned_by, handed, invoked, invoked_by, told_by, passed}
+use Rattle.hy_drive.specs.State.{DriveState, Service, Waiting, replied, IsFree}
+use Rattle.hy_drive.specs.Going.{DriveGoes, hands, too_large, turned_by, handed, invoked_by}
 use Rattle.hy_drive.specs.Role.{Suits}
-use Rattle.hy_drive.specs.Held.{HoldsService, HoldsLine, line_at, HearsNothing, waits, faulty}
+use Rattle.hy_drive.specs.Held.{HoldsService, HoldsLine, line_at}
 use Rattle.hy_drive.specs.Standing.{StandsFor, HoldsClient, Runs, IsSendableOut}
-use Rattle.hy_drive.specs.Stepping.{Judges, stays, judges, Steps, Rests, RepliesWith, EndsBy, Follows, Hands, Tells, HearsAnswer, HearsSession, Begins, BeginsTo, refusal_of}
+use Rattle.hy_drive.specs.Stepping.{Steps, RepliesWith, Begins, BeginsTo}
 use Rattle.hy_drive.proofs.Sendable.{invoked-sendable, turn-sendable}
 use Rattle.hy_drive.proofs.Suiting.{turn-suits}
 use Rattle.hy_drive.proofs.Taking.{no-client}

@@ -7,12 +7,11 @@ use Rattle.hy_mwire.specs.declared.fault.FrameFault.TheVariants.{NoMemory}
 use Rattle.hy_mwire.specs.declared.message.Message.{Message}
 use Rattle.hy_mwire.specs.Front.{Front, front_at, partial, message, fault}
 use Rattle.hy_mwire.specs.Message.{IsMessage}
-use Rattle.hy_mwire.specs.Stream.{Unread, front, judged_stream, with_piece, longer, next_answer, next_of, after_next, passed, said_in, StandsFor}
+use Rattle.hy_mwire.specs.Stream.{Unread, front, judged_stream, with_piece, longer, next_answer, next_of, after_next, passed, StandsFor}
 use Rattle.hy_drive.specs.declared.service_line.ServiceLine.{ServiceLine}
-use Rattle.hy_drive.specs.declared.service_line.News.{News}
-use Rattle.hy_drive.specs.declared.service_line.News.TheVariants.{Nothing, Said, Wrong}
+use Rattle.hy_drive.specs.declared.service_line.News.TheVariants.{Wrong}
 use Rattle.hy_drive.specs.State.{Service, live}
-use Rattle.hy_drive.specs.Held.{IsLive, HoldsService, StreamsOn, Reads, NewsAt, Gives, behind, HearsNothing, faulty}
+use Rattle.hy_drive.specs.Held.{IsLive, HoldsService, StreamsOn, Reads, Gives, HearsNothing, faulty}
 
 -- the parts of a live connection
 abbrev pub conn_of : Service → ℕ → ℕ

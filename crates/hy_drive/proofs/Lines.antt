@@ -1,5 +1,5 @@
 -- Lemmas on the connections to clouds.
-use Rattle.std.proofs.Common.{◌≡◌, ◌==◌, ℕ, Bool, true, false, List, [], ◌++◌, Option, Some, None, refl, sym, ap, subst, ◌∙◌, cond, eq-eqb, rules}
+use Rattle.std.proofs.Common.{◌≡◌, ◌==◌, ℕ, Bool, List, [], ◌++◌, Option, Some, None, refl, sym, ap, subst, ◌∙◌, cond, eq-eqb, rules}
 use Rattle.std.proofs.lemmas.Bool.{cond-true, cond-false}
 use Rattle.std.specs.Cmp.{unsigned_tied}
 use Rattle.std.specs.BTreeMap.{BTreeMap}
@@ -7,20 +7,17 @@ use Rattle.std.specs.Option.{IsSome}
 use Rattle.std.specs.Prelude.{if◌then◌else◌}
 use Rattle.std.specs.Ordering.{nat_cmp}
 use Rattle.std.specs.BTreeMap as tree
-use Rattle.hy_record.specs.declared.cloud.CloudAsk.{CloudAsk}
 use Rattle.hy_record.specs.declared.cloud.CloudSay.{CloudSay}
 use Rattle.hy_record.specs.declared.turn.Cue.{Cue}
 use Rattle.hy_cwire.specs.declared.kind.WishKind.{WishKind}
-use Rattle.hy_cwire.specs.declared.progress.Progress.{Progress}
 use Rattle.hy_cwire.specs.declared.progress.Progress.TheVariants.{Head}
-use Rattle.hy_cwire.specs.declared.say_head.SayHead.{SayHead}
 use Rattle.hy_cwire.specs.Readers.{Answering, IsSayAt}
 use Rattle.hy_drive.specs.declared.errand.Errand.{Errand}
 use Rattle.hy_drive.specs.declared.cloud_lines.CloudLine.{CloudLine}
 use Rattle.hy_drive.specs.declared.cloud_lines.CloudLines.{CloudLines}
 use Rattle.hy_drive.specs.State.{Waiting, answer_to}
 use Rattle.hy_drive.specs.Judging.{kind_of, ComesTo}
-use Rattle.hy_drive.specs.Held.{line_at, HoldsLine, IsAwaited, KeepsOthers, Awaits, ReadsReply, ReadsTo, ReadsLine, ReadsAt, ReadsWaiting, LineBehind, HasErrand, with_more, errand_of, errand_answer, TakesLine, taken, ReadsOn, RepliesAt}
+use Rattle.hy_drive.specs.Held.{line_at, HoldsLine, IsAwaited, KeepsOthers, Awaits, ReadsReply, ReadsTo, ReadsLine, ReadsAt, ReadsWaiting, LineBehind, with_more, errand_answer, TakesLine, taken, ReadsOn, RepliesAt}
 
 abbrev pub Lines : Type 0
 Lines = BTreeMap ℕ CloudLine

@@ -1,5 +1,5 @@
 -- Lemmas on the steps between two arrivals.
-use Rattle.std.proofs.Common.{◌≡◌, ℕ, List, [], ◌∷◌, ◌++◌, Option, Some, None, Result, Ok, Err, refl, sym, ap, subst, ◌∙◌}
+use Rattle.std.proofs.Common.{List, [], ◌++◌, Some, None, Result, Ok, Err, refl, ◌∙◌}
 use Rattle.hy_base.specs.Moves.{Move}
 use Rattle.hy_record.specs.declared.action.Reply.{Reply}
 use Rattle.hy_record.specs.declared.turn.Out.{Out}
@@ -10,15 +10,14 @@ use Rattle.hy_drive.specs.declared.driver.Next.TheVariants as next
 use Rattle.hy_drive.specs.declared.fault.DriveFault.{DriveFault}
 use Rattle.hy_drive.specs.declared.fault.DriveFault.TheVariants.{NetFault, SessionsFull, TooLarge, NotYet, NoMemory}
 use Rattle.hy_drive.specs.declared.job.Job.{Job}
-use Rattle.hy_drive.specs.declared.settling.Step.{Step}
 use Rattle.hy_drive.specs.declared.settling.Step.TheVariants as steps
-use Rattle.hy_drive.specs.State.{DriveState, IsFree, IsIdle}
+use Rattle.hy_drive.specs.State.{DriveState, IsFree}
 use Rattle.hy_drive.specs.Calling.{DriveCalls}
 use Rattle.hy_drive.specs.Arriving.{DriveTakes}
 use Rattle.hy_drive.specs.Going.{DriveGoes}
 use Rattle.hy_drive.specs.Role.{DriveLeads, Suits}
-use Rattle.hy_drive.specs.Standing.{StandsFor, IsSome, IsResting, IsHeld}
-use Rattle.hy_drive.specs.Stepping.{Judges, stays, judges, Follows, Sends, Steps, Rests, RepliesWith, Refuses, FaultAt, IsLarge, MovesOn, Stops, Moved, SendsOut, Waits, Finishes, GoesTo, Goes, GoesSoundly, SettlesTo, Settles, SettlesSoundly}
+use Rattle.hy_drive.specs.Standing.{StandsFor, IsSome, IsResting}
+use Rattle.hy_drive.specs.Stepping.{Judges, stays, judges, Follows, Refuses, IsLarge, MovesOn, Stops, Moved, SendsOut, Goes, Settles}
 use Rattle.hy_drive.proofs.Courses.{leads-on}
 
 -- one course, and another from where it led

@@ -1,14 +1,11 @@
 -- What a client sends can be sent: to clouds that can be there, and puts of no more than a value.
-use Rattle.std.proofs.Common.{◌≡◌, ◌+◌, ◌*◌, ◌/◌, ◌%◌, ◌<◌, ◌≤◌, ℕ, suc, zero, min, Bool, true, false, not, nat_lt, nat_le, ◌-◌, ◌==◌, ◌&&◌, List, [], ◌∷◌, ◌++◌, length, map, filter, take, cond, Option, Some, None, is_some, refl, sym, ap, subst, ◌∙◌, arith}
+use Rattle.std.proofs.Common.{◌≡◌, ◌+◌, ◌/◌, ◌≤◌, ℕ, suc, zero, Bool, true, false, not, nat_lt, nat_le, ◌-◌, ◌==◌, ◌&&◌, List, [], ◌∷◌, length, take, Option, Some, None, is_some, refl, sym, subst, arith}
 use Rattle.std.specs.Prelude.{All, if◌then◌else◌, slice_get, IfSome}
-use Rattle.std.specs.List.{range_with_len, flat_map, list_any}
-use Rattle.std.proofs.lemmas.Bool.{cases_Bool, cond-true, cond-false}
+use Rattle.std.specs.List.{range_with_len, list_any}
 use Rattle.std.proofs.lemmas.Bool.Decides.{nat_tests}
-use Rattle.std.proofs.lemmas.Grind.{common_steps}
 use Rattle.std.proofs.lemmas.List.Elements.{All-nil, All-cons, All-head, All-tail, All-map, All-filter, All-take, All-append, All-weaker}
-use Rattle.std.proofs.Math.Logic.{⊎_elim}
 use Rattle.std.proofs.Math.Nat.{mul-le-mul_left}
-use Rattle.hy_base.specs.declared.limits.TheConstants.{MAX_VALUE, MAX_CLOUDS, MAX_F, MAX_K}
+use Rattle.hy_base.specs.declared.limits.TheConstants.{MAX_VALUE, MAX_CLOUDS}
 use Rattle.hy_base.specs.Shape.{IsShape, cloud_count, quorum_size, fragment_size}
 use Rattle.hy_code.specs.Fragments.{fragment_of}
 use Rattle.hy_code.proofs.FragmentLaws.{length-fragment_of}

@@ -1,32 +1,29 @@
 -- Lemmas on the calls that send the messages of a client.
-use Rattle.std.proofs.Common.{◌≡◌, ℕ, Bool, true, false, List, [], ◌∷◌, ◌++◌, Option, Some, None, Result, Ok, Err, refl, sym, ap, subst, ◌∙◌}
-use Rattle.std.specs.Prelude.{All}
-use Rattle.hy_base.specs.Moves.{Move, Call, called, dial, send, close}
+use Rattle.std.proofs.Common.{◌≡◌, ℕ, Bool, true, false, List, [], ◌∷◌, ◌++◌, Option, Some, None, Ok, Err, refl, sym, ap, subst, ◌∙◌}
+use Rattle.hy_base.specs.Moves.{Move, called, dial, send, close}
 use Rattle.hy_record.specs.declared.cloud.CloudAsk.{CloudAsk}
 use Rattle.hy_record.specs.declared.cloud.CloudSay.TheVariants.{Bad}
 use Rattle.hy_record.specs.declared.message.MetaAsk.{MetaAsk}
-use Rattle.hy_record.specs.declared.turn.Cue.{Cue}
 use Rattle.hy_record.specs.declared.turn.Out.{Out}
 use Rattle.hy_record.specs.declared.turn.Out.TheVariants as outs
-use Rattle.hy_mwire.specs.declared.message.Message.TheVariants.{Join, Ask}
+use Rattle.hy_mwire.specs.declared.message.Message.TheVariants.{Ask}
 use Rattle.hy_mwire.specs.Frames.{frame_of}
 use Rattle.hy_cwire.specs.Writing.{ask_bytes}
 use Rattle.hy_serve.specs.Course.{begins, calls, goes}
 use Rattle.hy_drive.specs.declared.driver.Driver.{Driver}
-use Rattle.hy_drive.specs.declared.fault.DriveFault.{DriveFault}
 use Rattle.hy_drive.specs.declared.fault.DriveFault.TheVariants.{NetFault, NoMemory}
 use Rattle.hy_drive.specs.declared.job.Job.{Job}
-use Rattle.hy_drive.specs.State.{DriveState, Service, Waiting, live, over, nothing, asking, closing, broken, drive_begun, with_line, cloud_port, answer_to, IsFree}
-use Rattle.hy_drive.specs.Calling.{DriveCalls, dials_service, joins, asks_service, dials_cloud, asks_cloud, closes, service_dialled, join_sent, service_asked, cloud_dialled, cloud_asked}
+use Rattle.hy_drive.specs.State.{DriveState, Service, Waiting, nothing, broken, with_line, cloud_port, answer_to, IsFree}
+use Rattle.hy_drive.specs.Calling.{asks_service, dials_cloud, asks_cloud, closes, service_asked, cloud_dialled, cloud_asked}
 use Rattle.hy_drive.specs.Going.{skips}
 use Rattle.hy_drive.specs.Role.{DriveLeads}
-use Rattle.hy_drive.specs.Standing.{StandsFor, IsSome, HoldsClient}
+use Rattle.hy_drive.specs.Standing.{StandsFor, HoldsClient}
 use Rattle.hy_drive.specs.Held.{HoldsService, HoldsLine, line_at, errand_of}
 use Rattle.hy_drive.specs.Judging.{kind_of}
 use Rattle.hy_drive.specs.declared.errand.Errand.{Errand}
 use Rattle.hy_cwire.specs.declared.kind.WishKind.{WishKind}
 use Rattle.hy_protocol.specs.Session.{Session}
-use Rattle.hy_drive.specs.Stepping.{MovesOn, Stops, Moved, SendsOut, AsksService, AsksCloud, StandsOn, ServiceIs, HasService, Awaited, Lost, joined_state, Joins}
+use Rattle.hy_drive.specs.Stepping.{AsksService, AsksCloud, StandsOn, HasService, Awaited, Lost}
 
 -- the parts that a driver keeps are those of the state
 pub again : (job : Job) (driver : Driver) (state other : DriveState) → StandsFor job driver state → other.service ≡ state.service → other.lines ≡ state.lines → other.client ≡ state.client

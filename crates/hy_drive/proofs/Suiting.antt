@@ -1,5 +1,5 @@
 -- A reply is one of the action.
-use Rattle.std.proofs.Common.{◌≡◌, ℕ, Bool, true, false, List, [], ◌∷◌, length, nat_le, take, Option, Some, None, is_some, sym, subst}
+use Rattle.std.proofs.Common.{◌≡◌, ℕ, Bool, true, false, List, [], ◌∷◌, length, nat_le, Option, Some, None, is_some, sym, subst}
 use Rattle.std.specs.Prelude.{IfSome, if◌then◌else◌}
 use Rattle.std.specs.Option.{option_or}
 use Rattle.hy_record.specs.declared.action.Action.{Action}
@@ -10,7 +10,6 @@ use Rattle.hy_record.specs.declared.turn.Cue.{Cue}
 use Rattle.hy_record.specs.Stamp.{Timestamp}
 use Rattle.hy_record.specs.Record.{RecordValue, is_tombstone}
 use Rattle.hy_meta.specs.Service.{stamp_of_record}
-use Rattle.hy_code.specs.Fragments.{rebuilt_value}
 use Rattle.hy_protocol.specs.declared.plan.PutPlan.{PutPlan}
 use Rattle.hy_protocol.specs.declared.plan.CollectPlan.{CollectPlan}
 use Rattle.hy_protocol.specs.Inputs.{is_update_answer, is_forgot}

@@ -1,5 +1,5 @@
 -- Lemmas on what an arrival makes of a client over a net.
-use Rattle.std.proofs.Common.{◌≡◌, ◌==◌, ℕ, Bool, true, false, List, [], ◌∷◌, ◌++◌, length, Option, Some, None, is_some, refl, sym, ap, subst, ◌∙◌, cond, eq-eqb}
+use Rattle.std.proofs.Common.{◌≡◌, ◌==◌, ℕ, Bool, true, false, List, [], ◌∷◌, ◌++◌, Option, Some, None, is_some, refl, sym, ap, subst, ◌∙◌, cond, eq-eqb}
 use Rattle.std.proofs.lemmas.Bool.{cases_Bool, cond-true, cond-false, eqb-true}
 use Rattle.std.proofs.Math.Logic.{⊎_elim}
 use Rattle.std.specs.Prelude.{All, if◌then◌else◌}
@@ -9,7 +9,6 @@ use Rattle.hy_record.specs.declared.cloud.CloudSay.{CloudSay}
 use Rattle.hy_record.specs.declared.cloud.CloudSay.TheVariants.{Bad}
 use Rattle.hy_record.specs.declared.turn.Cue.{Cue}
 use Rattle.hy_record.specs.declared.turn.Cue.TheVariants.{Tick}
-use Rattle.hy_mwire.specs.Front.{front_at, partial}
 use Rattle.hy_protocol.specs.Session.{Session}
 use Rattle.hy_client.specs.declared.client.Client.{Client}
 use Rattle.hy_drive.specs.declared.cloud_lines.CloudLine.{CloudLine}
@@ -18,13 +17,13 @@ use Rattle.hy_drive.specs.declared.driver.Driver.{Driver}
 use Rattle.hy_drive.specs.declared.errand.Errand.{Errand}
 use Rattle.hy_drive.specs.declared.job.Job.{Job}
 use Rattle.hy_drive.specs.declared.service_line.ServiceLine.{ServiceLine}
-use Rattle.hy_drive.specs.State.{DriveState, Service, Pending, live, over, nothing, judging, closing, going, Waiting, with_line, answer_to, IsHeard, IsIdle}
+use Rattle.hy_drive.specs.State.{DriveState, Service, Pending, over, nothing, judging, closing, going, Waiting, with_line, answer_to, IsHeard, IsIdle}
 use Rattle.hy_drive.specs.Judging.{ComesTo, kind_of, judged}
 use Rattle.hy_drive.specs.Arriving.{is_service, longer, fed, closed, timed_out, drive_took}
-use Rattle.hy_drive.specs.Going.{DriveGoes, judges as goes_judged}
-use Rattle.hy_drive.specs.Held.{HoldsService, IsLive, StreamsOn, HoldsLine, line_at, KeepsOthers, ReadsOn, RepliesAt, RepliesWaiting, Answers, with_more, TakesLine, taken, errand_of, errand_answer}
+use Rattle.hy_drive.specs.Going.{judges as goes_judged}
+use Rattle.hy_drive.specs.Held.{HoldsService, StreamsOn, HoldsLine, line_at, KeepsOthers, ReadsOn, RepliesAt, with_more, TakesLine, taken, errand_answer}
 use Rattle.hy_drive.specs.Standing.{StandsFor, HoldsClient, IsSendableOut}
-use Rattle.hy_drive.specs.Stepping.{is_service_of, Reacts, Judges, stays, judges, pending_of, Takes}
+use Rattle.hy_drive.specs.Stepping.{is_service_of, Reacts, Judges, stays, judges, Takes}
 
 -- ---- parts
 

@@ -1,13 +1,12 @@
 -- Lemmas on what a message of the service makes of a client over a net.
-use Rattle.std.proofs.Common.{◌≡◌, ℕ, Bool, true, false, List, [], ◌∷◌, ◌++◌, Option, Some, None, is_some, Result, Ok, Err, refl, sym, ap, subst, ◌∙◌}
+use Rattle.std.proofs.Common.{◌≡◌, ℕ, true, false, List, [], ◌∷◌, ◌++◌, Option, Some, None, is_some, Result, Ok, Err, refl, sym, ap, subst, ◌∙◌}
 use Rattle.std.specs.Prelude.{All}
 use Rattle.hy_record.specs.declared.turn.Cue.{Cue}
 use Rattle.hy_record.specs.declared.turn.Cue.TheVariants as cues
 use Rattle.hy_record.specs.declared.message.MetaSay.{MetaSay}
-use Rattle.hy_mwire.specs.declared.fault.FrameFault.{FrameFault}
 use Rattle.hy_mwire.specs.declared.message.Message.{Message}
 use Rattle.hy_mwire.specs.declared.message.Message.TheVariants.{Joined, Full, Say}
-use Rattle.hy_mwire.specs.Front.{front_at, message, fault}
+use Rattle.hy_mwire.specs.Front.{front_at, message}
 use Rattle.hy_protocol.specs.Session.{Session, fresh_session}
 use Rattle.hy_client.specs.declared.client.Client.{Client}
 use Rattle.hy_drive.specs.declared.cloud_lines.CloudLines.{CloudLines}
@@ -17,12 +16,11 @@ use Rattle.hy_drive.specs.declared.driver.Next.TheVariants.{Send, Again, Idle, R
 use Rattle.hy_drive.specs.declared.fault.DriveFault.{DriveFault}
 use Rattle.hy_drive.specs.declared.fault.DriveFault.TheVariants.{NetFault, SessionsFull, TooLarge, NotYet, NoMemory}
 use Rattle.hy_drive.specs.declared.job.Job.{Job}
-use Rattle.hy_drive.specs.declared.service_line.ServiceLine.{ServiceLine}
-use Rattle.hy_drive.specs.State.{DriveState, Service, live, over, nothing, full, IsFree, IsSettled, IsIdle, IsHeard}
+use Rattle.hy_drive.specs.State.{DriveState, Service, live, over, nothing, full, IsFree, IsSettled}
 use Rattle.hy_drive.specs.Going.{DriveGoes, hears, breaks, too_large, invoked, invoked_by, told_by, passed}
 use Rattle.hy_drive.specs.Held.{HoldsService, HoldsLine, line_at, HearsNothing, waits, faulty}
 use Rattle.hy_drive.specs.Standing.{StandsFor, HoldsClient, IsSendableOut}
-use Rattle.hy_drive.specs.Stepping.{Judges, stays, judges, Steps, Rests, EndsBy, Follows, Tells, HearsAnswer, HearsSession, Begins, BeginsTo}
+use Rattle.hy_drive.specs.Stepping.{stays, judges, Steps, Rests, Follows, Tells, HearsAnswer, HearsSession, Begins, BeginsTo}
 use Rattle.hy_drive.proofs.Following.{SameLines, service-stands, lines-stay}
 use Rattle.hy_drive.proofs.Taking.{client-stands}
 

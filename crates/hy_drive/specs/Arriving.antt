@@ -1,8 +1,7 @@
 -- What arrives at a client over a net, and what it does.
-use Rattle.std.specs.Prelude.{◌≡◌, ◌==◌, ℕ, suc, Bool, true, false, List, [], ◌∷◌, ◌++◌, Option, Some, None, if◌then◌else◌}
+use Rattle.std.specs.Prelude.{◌≡◌, ◌==◌, ℕ, suc, Bool, true, false, List, [], ◌∷◌, ◌++◌, Option, Some, None}
 use Rattle.hy_base.specs.declared.arrival.Arrived.{Arrived}
 use Rattle.hy_base.specs.declared.arrival.Arrived.TheVariants.{Opened, Bytes, Closed, Quiet}
-use Rattle.hy_record.specs.declared.cloud.CloudAsk.{CloudAsk}
 use Rattle.hy_record.specs.declared.cloud.CloudSay.TheVariants.{Bad}
 use Rattle.hy_record.specs.declared.turn.Cue.TheVariants.{Tick}
 use Rattle.hy_protocol.specs.Session.{Session}

@@ -1,5 +1,5 @@
 -- What the bytes of a cloud's answer come to.
-use Rattle.std.specs.Prelude.{◌≡◌, ◌==◌, ℕ, List, [], ◌∷◌, Option, Some, None, if◌then◌else◌}
+use Rattle.std.specs.Prelude.{◌≡◌, ℕ, List, [], ◌∷◌, Option, Some, None}
 use Rattle.hy_record.specs.declared.cloud.CloudAct.{CloudAct}
 use Rattle.hy_record.specs.declared.cloud.CloudAct.TheVariants as acts
 use Rattle.hy_record.specs.declared.cloud.CloudSay.{CloudSay}

@@ -1,5 +1,5 @@
 -- Where a client over a net is.
-use Rattle.std.specs.Prelude.{◌≡◌, ◌==◌, ◌+◌, ℕ, List, [], ◌∷◌, Option, Some, None, if◌then◌else◌}
+use Rattle.std.specs.Prelude.{◌≡◌, ◌==◌, ◌+◌, ℕ, List, [], Option, None, if◌then◌else◌}
 use Rattle.hy_record.specs.declared.action.Reply.{Reply}
 use Rattle.hy_record.specs.declared.cloud.CloudAsk.{CloudAsk}
 use Rattle.hy_record.specs.declared.cloud.CloudSay.{CloudSay}

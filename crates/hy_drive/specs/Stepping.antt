@@ -1,9 +1,7 @@
 -- What each part of a client over a net does to the states that it stands for.
 use Rattle.std.specs.Prelude.{◌≡◌, ◌==◌, ℕ, Bool, false, List, [], ◌∷◌, ◌++◌, Option, Some, None, Result, Ok, Err}
 use Rattle.hy_base.specs.declared.arrival.Arrived.{Arrived}
-use Rattle.hy_base.specs.declared.arrival.Arrived.TheVariants as came
 use Rattle.hy_base.specs.Moves.{Move, called, close}
-use Rattle.hy_base.specs.Shape.{IsShape}
 use Rattle.hy_client.specs.declared.fault.InvokeFault.{InvokeFault}
 use Rattle.hy_client.specs.declared.fault.InvokeFault.TheVariants as invoking
 use Rattle.hy_cwire.specs.declared.kind.WishKind.{WishKind}

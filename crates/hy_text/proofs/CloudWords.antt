@@ -1,5 +1,5 @@
 -- The list of a set of clouds as a word: what is read is the word of the set, and it is read again.
-use Rattle.std.proofs.Common.{◌≡◌, ℕ, ◌+◌, ◌^◌, ◌<◌, ◌≤◌, ◌⊎◌, Bool, true, false, eqb, List, [], ◌∷◌, ◌++◌, length, map, Ok, refl, sym, ap, subst, ◌∙◌, arith, inl, inr}
+use Rattle.std.proofs.Common.{◌≡◌, ℕ, ◌+◌, ◌^◌, ◌<◌, ◌≤◌, Bool, true, false, List, [], ◌∷◌, ◌++◌, length, map, Ok, refl, sym, ap, subst, ◌∙◌, arith, inl, inr}
 use Rattle.std.specs.Prelude.{codes}
 use Rattle.std.specs.Char.{digit_value}
 use Rattle.std.specs.Fmt.{decimal}
@@ -14,8 +14,7 @@ use Rattle.std.proofs.lemmas.Slice.Eq.{bytes_eq-Decides}
 use Rattle.hy_base.proofs.Results.{bind_ok, ok_is}
 use Rattle.hy_record.specs.Clouds.{clouds_of}
 use Rattle.hy_text.specs.Clouds.{cloud_word, AreRising, rising_of, cloud_list_of, set_of_clouds, cloud_set_of}
-use Rattle.hy_text.specs.Line.{pieces_at, is_word_byte, is_word}
-use Rattle.hy_text.proofs.Bools.{and_true}
+use Rattle.hy_text.specs.Line.{pieces_at, is_word}
 use Rattle.hy_text.proofs.CloudSets.{clouds_of-set, set_of_clouds-lt, set_of_clouds-clouds_of, rising-clouds_of}
 use Rattle.hy_text.proofs.Pieces.{pieces_at-some}
 use Rattle.hy_text.proofs.Printed.{is_word-decimal, length-decimal}

@@ -1,5 +1,5 @@
 -- Words and groups of words: what is read is the row of what it spells, in range, and such a row is read again.
-use Rattle.std.proofs.Common.{◌≡◌, ℕ, ◌^◌, ◌<◌, ◌≤◌, IsTrue, true, List, [], ◌∷◌, ◌++◌, length, Ok, refl, ap, subst, ◌∙◌, arith}
+use Rattle.std.proofs.Common.{◌≡◌, ℕ, ◌^◌, ◌<◌, ◌≤◌, IsTrue, true, List, ◌∷◌, ◌++◌, length, Ok, refl, ap, subst, ◌∙◌, arith}
 use Rattle.std.specs.Fmt.{decimal}
 use Rattle.std.specs.List.{list_all}
 use Rattle.hy_base.proofs.Results.{bind_ok, ok_is}
@@ -14,7 +14,7 @@ use Rattle.hy_text.specs.Action.{verb_word, verbs, action_words, IsTextValue, Is
 use Rattle.hy_text.specs.declared.action.Verb.{Verb}
 use Rattle.hy_text.specs.declared.action.Verb.TheVariants as verb
 use Rattle.hy_text.specs.Line.{first_word, later_words, is_word}
-use Rattle.hy_text.specs.Phase.{phase_word, phases, phase_of}
+use Rattle.hy_text.specs.Phase.{phase_word, phase_of}
 use Rattle.hy_text.specs.Slot.{number_of, value_of, key_word, value_word}
 use Rattle.hy_text.specs.Stamp.{stamp_words, IsStampWithin, stamp_from}
 use Rattle.hy_text.specs.Table.{value_named}

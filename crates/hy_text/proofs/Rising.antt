@@ -1,6 +1,6 @@
 -- Numbers that increase: what is read is their row, such a row is read again, and how a loop reads them into a set.
 use Rattle.std.proofs.Common.{◌≡◌, ℕ, ◌+◌, ◌*◌, ◌%◌, ◌^◌, ◌<◌, ◌≤◌, true, false, List, [], ◌∷◌, map, Result, Ok, Err, refl, sym, ap, subst, ◌∙◌, add-one, add-zero, zero-add, arith}
-use Rattle.std.proofs.Math.Nat.{pow-suc, add_assoc}
+use Rattle.std.proofs.Math.Nat.{pow-suc}
 use Rattle.std.proofs.Math.Pow.{pow_mono}
 use Rattle.std.specs.Prelude.{is_err}
 use Rattle.std.specs.Fmt.{decimal}

@@ -1,6 +1,6 @@
-use Rattle.std.proofs.Common.{◌≡◌, ◌+◌, ℕ, List, [], ◌∷◌, Option, Some, None, true, false, refl, ap, ◌∙◌}
+use Rattle.std.proofs.Common.{◌≡◌, ◌+◌, ℕ, List, [], ◌∷◌, None, true, false, ap, ◌∙◌}
 use Rattle.std.proofs.lemmas.Result.{err_from_is_err_and}
-use Rattle.hy_base.specs.Moves.{Move, called, dial, send, close}
+use Rattle.hy_base.specs.Moves.{Move, called, dial, close}
 use Rattle.hy_base.proofs.Adding.{Adds-none, Adds-weaken, Adds-more}
 use Rattle.hy_drive.specs.State.{cloud_port}
 use Rattle.hy_drive.proofs.Sending.{sent-moves, sent-as, cloud-starved, cloud-undialled, cloud-starved-undialled, cloud-sent, cloud-starved-sent, cloud-unsent, cloud-starved-unsent, lost-stands}

@@ -1,6 +1,6 @@
-use Rattle.std.proofs.Common.{◌≡◌, List, ℕ, [], ◌∷◌, true, false, refl, ap, ◌∙◌}
+use Rattle.std.proofs.Common.{List, ℕ, [], ◌∷◌, true, false, ap, ◌∙◌}
 use Rattle.std.proofs.lemmas.Result.{err_from_is_err_and}
-use Rattle.hy_base.specs.Moves.{Move, called, send}
+use Rattle.hy_base.specs.Moves.{called, send}
 use Rattle.hy_base.proofs.Adding.{Adds-none, Adds-weaken}
 use Rattle.hy_drive.proofs.Sending.{service-starved, service-sent, service-failed, service-gone}
 use Rattle.hy_drive.proofs.asking.ask_service.Goals as goal

@@ -1,4 +1,4 @@
-use Rattle.std.proofs.Common.{◌≡◌, ◌≢◌, ◌++◌, Option, Some, None, Ok, refl, sym, ap, ◌∙◌, subst}
+use Rattle.std.proofs.Common.{◌≡◌, ◌≢◌, ◌++◌, Option, Some, None, Ok, sym, ap, ◌∙◌, subst}
 use Rattle.std.proofs.lemmas.Result.{IfOk-weaker}
 use Rattle.hy_record.specs.declared.cloud.CloudSay.{CloudSay}
 use Rattle.hy_record.specs.declared.cloud.CloudSay.TheVariants as says
@@ -6,7 +6,7 @@ use Rattle.hy_cwire.specs.declared.fault.HttpFault.TheVariants.{NoMemory}
 use Rattle.hy_cwire.specs.declared.kind.WishKind.{WishKind}
 use Rattle.hy_cwire.specs.Readers.{Answering}
 use Rattle.hy_drive.specs.Held.{ReadsReply, ReadsTo}
-use Rattle.hy_drive.proofs.Reading.{ok-memory, err-memory, unfinished-live, unfinished-open, reads-wrong, reads-stood, reads-whole, reads-partial}
+use Rattle.hy_drive.proofs.Reading.{ok-memory, err-memory, unfinished-live, unfinished-open, reads-wrong, reads-whole, reads-partial}
 use Rattle.hy_drive.proofs.cloud_lines.read.Goals as goal
 
 pub returns-in-Ok-Some : goal.returns-in-Ok-Some

@@ -1,4 +1,3 @@
-use Rattle.std.proofs.Common.{◌≡◌, ◌∙◌, refl, subst, arith}
 use Rattle.std.proofs.lemmas.Result.{err_from_is_err_and}
 use Rattle.hy_base.proofs.Adding.{Adds-none, Adds-weaken, Adds-append}
 use Rattle.hy_drive.proofs.Arrivals.{drives-nothing, drives-stopped, drives-starved, drives-joined, rests-joined}

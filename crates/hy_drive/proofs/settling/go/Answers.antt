@@ -1,6 +1,5 @@
-use Rattle.std.proofs.Common.{[], ◌++◌, List, Ok, Err, refl, sym, subst}
+use Rattle.std.proofs.Common.{Ok, subst}
 use Rattle.std.proofs.lemmas.Result.{err_from_is_err_and}
-use Rattle.hy_base.specs.Moves.{Move}
 use Rattle.hy_base.proofs.Adding.{Adds-none, Adds-weaken}
 use Rattle.hy_drive.specs.declared.driver.Next.{Next}
 use Rattle.hy_drive.proofs.Rounds.{Follow, goes-refused, goes-again, goes-idle, goes-replied, goes-sent, goes-unsent, some-sends}

@@ -1,10 +1,10 @@
-use Rattle.std.proofs.Common.{Ok, refl, sym, ◌∙◌, subst, arith}
+use Rattle.std.proofs.Common.{Ok, refl, ◌∙◌, subst, arith}
 use Rattle.std.proofs.lemmas.Result.{err_from_is_err_and}
 use Rattle.hy_base.specs.Net.{Adds}
 use Rattle.hy_base.proofs.Adding.{Adds-none, Adds-append}
 use Rattle.hy_drive.specs.declared.settling.Step.{Step}
 use Rattle.hy_drive.specs.Stepping.{Goes, GoesSoundly}
-use Rattle.hy_drive.proofs.Rounds.{Advances, advances-none, advances-more, settles-idle, settles-replied, settles-stopped}
+use Rattle.hy_drive.proofs.Rounds.{advances-none, advances-more, settles-idle, settles-replied, settles-stopped}
 use Rattle.hy_drive.proofs.settling.settle.Goals as goal
 
 pub loop-step-init : goal.loop-step-init

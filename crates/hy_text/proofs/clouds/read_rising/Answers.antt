@@ -1,5 +1,5 @@
 -- A word that is read moves its cloud from what is left to the set.
-use Rattle.std.proofs.Common.{◌≡◌, ◌≤◌, ◌<◌, true, false, Err, Ok, refl, sym, arith}
+use Rattle.std.proofs.Common.{◌≡◌, true, false, Err, Ok, sym, arith}
 use Rattle.std.specs.Prelude.{is_err}
 use Rattle.std.proofs.lemmas.Grind.{common_steps}
 use Rattle.hy_text.specs.Clouds.{as_set, rising_of}

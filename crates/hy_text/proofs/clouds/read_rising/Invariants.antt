@@ -1,5 +1,5 @@
 -- The set so far, and the clouds of the words that are left, are those of all words.
-use Rattle.std.proofs.Common.{◌≡◌, ◌^◌, ◌<◌, ◌≤◌, length}
+use Rattle.std.proofs.Common.{◌≡◌, ◌^◌, ◌<◌, length}
 use Rattle.hy_text.specs.Clouds.{as_set, rising_of}
 use Rattle.hy_text.proofs.Rising.{with_set}
 use Rattle.hy_text.proofs.clouds.read_rising.Given as goal

@@ -1,7 +1,4 @@
-use Rattle.std.proofs.Common.{refl, sym, subst, ◌∙◌, Option, Some, None}
-use Rattle.hy_record.specs.declared.cloud.CloudSay.TheVariants.{Bad}
-use Rattle.hy_record.specs.declared.turn.Cue.{Cue}
-use Rattle.hy_drive.specs.Held.{TakesLine}
+use Rattle.std.proofs.Common.{refl, sym, ◌∙◌, None}
 use Rattle.hy_drive.proofs.Taking.{service-closed, cloud-cut, cloud-ended}
 use Rattle.hy_drive.proofs.driver.Driver.close.Goals as goal
 

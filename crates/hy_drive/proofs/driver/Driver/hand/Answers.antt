@@ -1,4 +1,4 @@
-use Rattle.std.proofs.Common.{Some, refl, sym, ap, ◌∙◌, is_some, Option}
+use Rattle.std.proofs.Common.{Some, refl, ap, ◌∙◌, is_some, Option}
 use Rattle.hy_client.specs.declared.client.Client.{Client}
 use Rattle.hy_drive.proofs.Following.{hands-reply, hands-sends, hands-nobody}
 use Rattle.hy_drive.proofs.driver.Driver.hand.Goals as goal

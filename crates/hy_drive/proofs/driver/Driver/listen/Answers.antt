@@ -1,4 +1,4 @@
-use Rattle.std.proofs.Common.{Option, None, refl, subst}
+use Rattle.std.proofs.Common.{Option, refl, subst}
 use Rattle.hy_mwire.specs.declared.message.Message.{Message}
 use Rattle.hy_drive.specs.Held.{Hears}
 use Rattle.hy_drive.proofs.Telling.{rests-now}

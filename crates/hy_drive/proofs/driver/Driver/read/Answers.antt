@@ -1,4 +1,4 @@
-use Rattle.std.proofs.Common.{refl, sym, subst, ◌∙◌, Option, Some, None}
+use Rattle.std.proofs.Common.{refl, sym, subst, ◌∙◌, Option}
 use Rattle.hy_record.specs.declared.turn.Cue.{Cue}
 use Rattle.hy_drive.specs.Held.{ReadsOn}
 use Rattle.hy_drive.proofs.Taking.{service-fed, cloud-fed, cloud-answered}

@@ -1,4 +1,4 @@
-use Rattle.std.proofs.Common.{refl, sym, subst, None}
+use Rattle.std.proofs.Common.{sym, subst, None}
 use Rattle.hy_base.specs.declared.arrival.Arrival.{Arrival}
 use Rattle.hy_base.specs.Moves.{came}
 use Rattle.hy_drive.specs.Stepping.{Takes}

@@ -1,4 +1,4 @@
-use Rattle.std.proofs.Common.{◌≡◌, ◌++◌, Option, Ok, refl, sym, ap, subst, ◌∙◌}
+use Rattle.std.proofs.Common.{◌++◌, Option, Ok, refl, sym, ap, subst, ◌∙◌}
 use Rattle.hy_mwire.specs.declared.message.Message.{Message}
 use Rattle.hy_mwire.specs.Stream.{StandsFor, said_in}
 use Rattle.hy_drive.proofs.Hearing.{gives-said, ok-next}
