@@ -12,11 +12,11 @@ ghost use Rattle.hy_drive.specs.declared.fault.DriveFault.TheVariants as faults;
 use crate::driver::Driver;
 use crate::fault::DriveFault;
 use crate::job::Job;
-use crate::room::buffer;
 use crate::settling::settle;
 use hy_base::Net;
 use hy_mwire::{Message, encode};
 use hy_record::Reply;
+use hy_serve::buffer;
 use std::alloc::Global;
 
 /// Runs the job's action over the net: its reply, unless so many arrivals were taken before.

@@ -9,7 +9,6 @@ mod driving;
 mod errand;
 mod fault;
 mod job;
-mod room;
 mod service_line;
 mod settling;
 

@@ -15,6 +15,7 @@ mod room;
 pub use cloud_serving::serve_cloud;
 pub use fault::ServeFault;
 pub use meta_serving::serve_meta;
+pub use room::buffer;
 
 #[cfg(test)]
 mod tests;
