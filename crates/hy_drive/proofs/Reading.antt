@@ -1,38 +1,18 @@
 -- Lemmas on answers that are read piece by piece.
-use Rattle.std.proofs.Common.{◌≡◌, ◌≢◌, ◌<◌, ℕ, Bool, true, false, List, length, nat_lt, Option, Some, None, Result, Ok, Err, refl, sym, subst, ◌∙◌, arith}
+use Rattle.std.proofs.Common.{◌≡◌, ◌<◌, ℕ, Bool, true, false, List, length, nat_lt, Option, Some, None, Result, Ok, Err, refl, sym, subst, arith}
 use Rattle.std.specs.Prelude.{if◌then◌else◌}
 use Rattle.std.proofs.lemmas.Bool.Decides.{nat_tests}
 use Rattle.hy_record.specs.declared.cloud.CloudSay.{CloudSay}
 use Rattle.hy_record.specs.declared.cloud.CloudSay.TheVariants as says
 use Rattle.hy_cwire.specs.declared.fault.HttpFault.{HttpFault}
-use Rattle.hy_cwire.specs.declared.fault.HttpFault.TheVariants.{NoMemory}
 use Rattle.hy_cwire.specs.declared.kind.WishKind.{WishKind}
 use Rattle.hy_cwire.specs.declared.progress.Progress.{Progress}
 use Rattle.hy_cwire.specs.declared.progress.Progress.TheVariants.{Head, Body, Given, Broken}
 use Rattle.hy_cwire.specs.declared.say_head.SayHead.{SayHead}
 use Rattle.hy_cwire.specs.Readers.{Answering, IsSayAt, say_body_size}
 use Rattle.hy_cwire.specs.Says.{say_in, say_of}
-use Rattle.hy_cwire.specs.Stages.{IsLive, IsOpen, answer_of, next_answer, after_next}
+use Rattle.hy_cwire.specs.Stages.{IsOpen, answer_of, next_answer, after_next}
 use Rattle.hy_drive.specs.Held.{IsUnfinished, ReadsTo}
-
-pub unfinished-live : (progress : Progress SayHead) → IsUnfinished progress → IsLive progress
-unfinished-live (Head front) waiting = tt
-unfinished-live (Body head body) waiting = tt
-unfinished-live Given waiting = tt
-unfinished-live (Broken wrong) waiting = waiting
-
-pub unfinished-open : (progress : Progress SayHead) → IsUnfinished progress → IsOpen progress
-unfinished-open (Head front) waiting = tt
-unfinished-open (Body head body) waiting = tt
-unfinished-open Given waiting = waiting
-unfinished-open (Broken wrong) waiting = absurd waiting
-
--- what is answered is not want of memory
-pub ok-memory : (result : Result Unit HttpFault) (u : Unit {0}) → result ≡ Ok u → result ≢ Err NoMemory
-ok-memory result u is not = absurd (let e : ◌≡◌ {A = Result Unit HttpFault} (Ok u) (Err NoMemory) = sym is ∙ not in cc)
-
-pub err-memory : (result : Result Unit HttpFault) (wrong : HttpFault) → result ≡ Err wrong → wrong ≢ NoMemory → result ≢ Err NoMemory
-err-memory result wrong is other not = other (let e : ◌≡◌ {A = Result Unit HttpFault} (Err wrong) (Err NoMemory) = sym is ∙ not in cc)
 
 -- a fault that a piece showed
 pub reads-wrong : (asked : WishKind) (bytes : List ℕ) (mid : Progress SayHead) (new : Answering) (wrong : HttpFault)

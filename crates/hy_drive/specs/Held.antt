@@ -1,5 +1,5 @@
 -- What is kept of the connections.
-use Rattle.std.specs.Prelude.{◌≡◌, ◌==◌, ◌+◌, ◌-◌, ◌^◌, ◌<◌, min, ℕ, false, List, [], ◌++◌, drop, length, Option, Some, None}
+use Rattle.std.specs.Prelude.{◌≡◌, ◌==◌, ◌+◌, ◌-◌, ◌^◌, min, ℕ, false, List, [], ◌++◌, drop, Option, Some, None}
 use Rattle.std.specs.Ordering.{nat_cmp}
 use Rattle.std.specs.BTreeMap as tree
 use Rattle.hy_record.specs.declared.cloud.CloudAsk.{CloudAsk}
@@ -13,9 +13,10 @@ use Rattle.hy_mwire.specs.Message.{IsMessage}
 use Rattle.hy_mwire.specs.Stream.{StandsFor}
 use Rattle.hy_cwire.specs.declared.kind.WishKind.{WishKind}
 use Rattle.hy_cwire.specs.declared.progress.Progress.{Progress}
-use Rattle.hy_cwire.specs.declared.progress.Progress.TheVariants.{Head, Body, Given, Broken}
+use Rattle.hy_cwire.specs.declared.progress.Progress.TheVariants.{Head}
 use Rattle.hy_cwire.specs.declared.say_head.SayHead.{SayHead}
-use Rattle.hy_cwire.specs.Readers.{Answering, IsSayAt}
+use Rattle.hy_cwire.specs.Readers.{Answering, IsSayAt, say_body_size}
+use Rattle.hy_serve.specs.Incomplete.{IsIncomplete}
 use Rattle.hy_drive.specs.declared.errand.Errand.{Errand}
 use Rattle.hy_drive.specs.declared.cloud_lines.CloudLine.{CloudLine}
 use Rattle.hy_drive.specs.declared.cloud_lines.CloudLines.{CloudLines}
@@ -125,10 +126,7 @@ line_at lines conn = tree.get nat_cmp lines.lines conn
 
 -- an answer that is neither whole nor faulty
 abbrev pub IsUnfinished : Progress SayHead → Type 0
-IsUnfinished (Head front) = Unit {0}
-IsUnfinished (Body head body) = length body < head.size
-IsUnfinished Given = ⊥
-IsUnfinished (Broken wrong) = ⊥
+IsUnfinished progress = IsIncomplete say_body_size progress
 
 -- so far the answer to the request came
 pub record IsAwaited (line : CloudLine) (waiting : Waiting) : Type 0 where

@@ -1,5 +1,6 @@
 pub mod Results
 pub mod Tables
+pub mod Incomplete
 pub mod Reading
 pub mod Lines
 pub mod Sendable

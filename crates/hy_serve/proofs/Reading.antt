@@ -1,5 +1,5 @@
 -- Lemmas on requests that are read piece by piece.
-use Rattle.std.proofs.Common.{◌≡◌, ◌≢◌, ◌≤◌, ◌<◌, ℕ, Bool, true, false, List, ◌++◌, length, drop, nat_lt, Option, Some, None, Result, Ok, Err, refl, sym, ap, subst, ◌∙◌, arith}
+use Rattle.std.proofs.Common.{◌≡◌, ◌≤◌, ◌<◌, ℕ, Bool, true, false, List, ◌++◌, length, drop, nat_lt, Option, Some, None, Result, Ok, Err, refl, sym, ap, subst, arith}
 use Rattle.std.specs.Prelude.{if◌then◌else◌}
 use Rattle.std.proofs.lemmas.Bool.Decides.{nat_tests}
 use Rattle.std.proofs.lemmas.List.{length-take}
@@ -7,38 +7,18 @@ use Rattle.hy_base.specs.declared.limits.TheConstants.{MAX_VALUE}
 use Rattle.hy_record.specs.declared.cloud.Wish.{Wish}
 use Rattle.hy_cwire.specs.declared.ask_head.AskHead.{AskHead}
 use Rattle.hy_cwire.specs.declared.fault.HttpFault.{HttpFault}
-use Rattle.hy_cwire.specs.declared.fault.HttpFault.TheVariants.{NoMemory}
 use Rattle.hy_cwire.specs.declared.kind.WishKind.{WishKind}
 use Rattle.hy_cwire.specs.declared.kind.WishKind.TheVariants.{Put, Get, Delete}
 use Rattle.hy_cwire.specs.declared.progress.Progress.{Progress}
 use Rattle.hy_cwire.specs.declared.progress.Progress.TheVariants.{Head, Body, Given, Broken}
 use Rattle.hy_cwire.specs.Asks.{wish_in, wish_of, act_of}
 use Rattle.hy_cwire.specs.Readers.{IsAskAt, ask_body_size}
-use Rattle.hy_cwire.specs.Stages.{IsLive, IsOpen, answer_of, next_answer, after_next}
+use Rattle.hy_cwire.specs.Stages.{IsOpen, answer_of, next_answer, after_next}
 use Rattle.hy_cwire.specs.Writing.{IsSendableAct}
 use Rattle.hy_cwire.proofs.Sizes.{ask-fits}
 use Rattle.hy_serve.specs.declared.cloud_lines.Reading.TheVariants.{Partial, Asks, Wrong}
 use Rattle.hy_serve.specs.CloudRole.{Line, asking, asks}
 use Rattle.hy_serve.specs.CloudStanding.{IsAsking, IsWaiting, Reads, ReadsTo, ReadsLine, ReadsOn, GoesOn}
-
-pub waiting-live : (progress : Progress AskHead) → IsWaiting progress → IsLive progress
-waiting-live (Head front) waiting = tt
-waiting-live (Body head body) waiting = tt
-waiting-live Given waiting = tt
-waiting-live (Broken wrong) waiting = waiting
-
-pub waiting-open : (progress : Progress AskHead) → IsWaiting progress → IsOpen progress
-waiting-open (Head front) waiting = tt
-waiting-open (Body head body) waiting = tt
-waiting-open Given waiting = waiting
-waiting-open (Broken wrong) waiting = absurd waiting
-
--- what is answered is not want of memory
-pub ok-memory : (result : Result Unit HttpFault) (u : Unit {0}) → result ≡ Ok u → result ≢ Err NoMemory
-ok-memory result u is not = absurd (let e : ◌≡◌ {A = Result Unit HttpFault} (Ok u) (Err NoMemory) = sym is ∙ not in cc)
-
-pub err-memory : (result : Result Unit HttpFault) (wrong : HttpFault) → result ≡ Err wrong → wrong ≢ NoMemory → result ≢ Err NoMemory
-err-memory result wrong is other not = other (let e : ◌≡◌ {A = Result Unit HttpFault} (Err wrong) (Err NoMemory) = sym is ∙ not in cc)
 
 -- a fault
 pub reads-wrong : (bytes : List ℕ) (mid : Progress AskHead) (wrong : HttpFault) → Err wrong ≡ answer_of mid → IsAskAt bytes mid → IsOpen mid → ReadsTo bytes mid (Wrong wrong)

@@ -1,5 +1,5 @@
 -- What a cloud's server keeps of the state that it is in.
-use Rattle.std.specs.Prelude.{◌≡◌, ◌==◌, ◌<◌, ℕ, false, List, [], ◌∷◌, ◌++◌, length, Option, Some, None}
+use Rattle.std.specs.Prelude.{◌≡◌, ◌==◌, ℕ, false, List, [], ◌∷◌, ◌++◌, Option, Some, None}
 use Rattle.std.specs.Ordering.{nat_cmp}
 use Rattle.std.specs.BTreeMap as tree
 use Rattle.hy_base.specs.declared.arrival.Arrived.{Arrived}
@@ -8,8 +8,7 @@ use Rattle.hy_cloud.specs.declared.cloud.Cloud.{Cloud}
 use Rattle.hy_cloud.specs.Objects.{StandsForWishes}
 use Rattle.hy_cwire.specs.declared.ask_head.AskHead.{AskHead}
 use Rattle.hy_cwire.specs.declared.progress.Progress.{Progress}
-use Rattle.hy_cwire.specs.declared.progress.Progress.TheVariants.{Head, Body, Given, Broken}
-use Rattle.hy_cwire.specs.Readers.{IsAskAt}
+use Rattle.hy_cwire.specs.Readers.{IsAskAt, ask_body_size}
 use Rattle.hy_cwire.specs.Writing.{IsSendableAct}
 use Rattle.hy_record.specs.declared.cloud.Wish.{Wish}
 use Rattle.hy_serve.specs.declared.answer.Answer.{Answer}
@@ -17,6 +16,7 @@ use Rattle.hy_serve.specs.declared.cloud_lines.Reading.{Reading}
 use Rattle.hy_serve.specs.declared.cloud_lines.Reading.TheVariants.{Partial, Asks, Wrong}
 use Rattle.hy_serve.specs.declared.cloud_server.CloudServer.{CloudServer}
 use Rattle.hy_serve.specs.Answer.{requests_of}
+use Rattle.hy_serve.specs.Incomplete.{IsIncomplete}
 use Rattle.hy_serve.specs.CloudRole.{Line, unopened, asking, over, CloudState, Outcome, waits, asks, wrongs, ComesTo, CloudGoes, cloud_took, answer_on}
 use Rattle.hy_cwire.specs.Fault.{status_of}
 use Rattle.hy_protocol.specs.Cloud.{cloud_answer}
@@ -31,10 +31,7 @@ line_at server conn = tree.get nat_cmp server.lines conn
 
 -- a request that is neither whole nor faulty
 abbrev pub IsWaiting : Progress AskHead → Type 0
-IsWaiting (Head front) = Unit {0}
-IsWaiting (Body head body) = length body < head.size
-IsWaiting Given = ⊥
-IsWaiting (Broken wrong) = ⊥
+IsWaiting progress = IsIncomplete ask_body_size progress
 
 pub record IsAsking (progress : Progress AskHead) (line : Line) : Type 0 where
   pub bytes : List ℕ

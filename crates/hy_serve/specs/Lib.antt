@@ -1,5 +1,6 @@
 pub mod Answer
 pub mod Course
+pub mod Incomplete
 pub mod CloudRole
 pub mod CloudStanding
 pub mod CloudWaiting
