@@ -26,19 +26,6 @@ reads-wrong asked bytes (Broken fault) new wrong is at still same = record {
   goes_on = tt;
 }
 
--- a fault that stood before
-pub reads-stood : (asked : WishKind) (bytes : List ℕ) (mid : Progress SayHead) (new : Answering) (wrong : HttpFault)
-    → Err wrong ≡ next_answer (say_in asked) mid → IsSayAt bytes mid → IsOpen mid → new.asked ≡ asked → ReadsTo bytes asked new (Some (says.Bad 0))
-reads-stood asked bytes (Head front) new wrong is at still same = absurd (let e : ◌≡◌ {A = Result (Option CloudSay) HttpFault} (Err wrong) (Ok None) = is in cc)
-reads-stood asked bytes (Body head body) new wrong is at still same =
-    absurd (let e : ◌≡◌ {A = Result (Option CloudSay) HttpFault} (Err wrong) (Ok (say_in asked head body)) = is in cc)
-reads-stood asked bytes Given new wrong is at still same = absurd still
-reads-stood asked bytes (Broken fault) new wrong is at still same = record {
-  comes = record { progress = Broken fault; at = at; open_still = still; is = refl };
-  asked_still = same;
-  goes_on = tt;
-}
-
 -- a whole answer
 pub reads-whole : (asked : WishKind) (bytes : List ℕ) (mid : Progress SayHead) (new : Answering) (say : CloudSay)
     → Ok (Some say) ≡ next_answer (say_in asked) mid → IsSayAt bytes mid → new.asked ≡ asked → ReadsTo bytes asked new (Some say)
