@@ -1,10 +1,10 @@
 -- A net in memory: what it stands for, and which of its calls fail.
-use Rattle.std.specs.Prelude.{◌≡◌, ◌<◌, ◌⊎◌, ℕ, false, List, [], ◌∷◌, ◌++◌, length}
+use Rattle.std.specs.Prelude.{◌≡◌, ◌<◌, ◌⊎◌, ℕ, false, not, List, [], ◌∷◌, ◌++◌, length}
 use Rattle.hy_base.specs.declared.net_call.NetCall.{NetCall}
 use Rattle.hy_base.specs.declared.net_call.NetCall.TheVariants.{Listen, Dial, Send, Close}
 use Rattle.hy_base.specs.declared.arrival.Arrived.{Arrived}
 use Rattle.hy_base.specs.declared.net_tape.NetTape.{NetTape}
-use Rattle.hy_base.specs.Faults.{FailsNext}
+use Rattle.hy_base.specs.Faults.{FailsNext, next_count}
 use Rattle.hy_base.specs.Moves.{Move, Call, arrived, called, listen, dial, send, close, bytes_sent, sent_by, is_dialled}
 use Rattle.hy_base.specs.Outbox.{bytes_on, fresh_outbox, has_room}
 use Rattle.hy_base.specs.Script.{Leaves, rest_of}
@@ -58,3 +58,14 @@ pub record AddsCall (old new : NetTape) (call : Call) : Type 0 where
   pub calls : new.outbox.calls ≡ old.outbox.calls ++ kept call ∷ []
   pub sent : (conn : ℕ) → bytes_on new.outbox conn ≡ bytes_on old.outbox conn ++ sent_by conn call
   pub dialled : (conn : ℕ) → new.dialled < conn → (old.dialled < conn) × (is_dialled conn (called call ∷ []) ≡ false)
+
+-- what a call that sends so many bytes leaves: what is to come is as before, and the tape tells on exactly where it told and there was room
+pub record LeavesTape (old new : NetTape) (size : ℕ) : Type 0 where
+  pub script : new.script ≡ old.script
+  pub room : new.outbox.room ≡ old.outbox.room
+  pub told : new.outbox.overrun ≡ not (has_room old.outbox size)
+
+-- the call took the next number, and the same numbers fail from now on
+pub record TakesNumber (old new : NetTape) : Type 0 where
+  pub made : new.calls.made ≡ next_count old.calls.made
+  pub failing : new.calls.failing ≡ old.calls.failing

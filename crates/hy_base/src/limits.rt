@@ -1,5 +1,7 @@
 //! The limits of the store and of its texts.
 
+ghost use Rattle.std.specs.Prelude.{◌≡◌};
+
 /// The most faulty clouds that a store can be set up to bear.
 pub const MAX_F: u8 = 3;
 
@@ -47,3 +49,13 @@ pub const SN_END: u32 = 4_294_967_295;
 
 /// The last number of a client or of an operation, and the largest count that is told.
 pub const MAX_COUNT: u32 = 4_294_967_295;
+
+/// The limits have these numbers: a clause that cites a limit by its name speaks of no other.
+pub fn limits_have_these_numbers()
+    ensures store { (MAX_F ≡ 3) × (MAX_K ≡ 4) × (MAX_N ≡ 10) × (MAX_CLOUDS ≡ 16) }
+    ensures bytes { (MAX_VALUE ≡ 1048576) × (MAX_KEY ≡ 64) × (MAX_RECORD ≡ 338) }
+    ensures numbers { (MAX_SESSIONS ≡ 4096) × (MAX_SN ≡ 4294967294)
+        × (SN_END ≡ 4294967295) × (MAX_COUNT ≡ 4294967295) }
+    ensures texts { (MAX_INPUT ≡ 16777216) × (MAX_EVENTS ≡ 16384) × (MAX_MADE ≡ 10000)
+        × (MAX_TEXT_VALUE ≡ 4096) × (MAX_LINE ≡ 4294967295) }
+{}

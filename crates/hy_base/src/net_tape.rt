@@ -1,12 +1,13 @@
 //! A net in memory: it gives a script, and keeps what is done on it.
 
-ghost use Rattle.std.specs.Prelude.{◌≡◌, ◌⊎◌, ◌↔◌, ℕ, List, length, false, IfOk, IsErr, is_ok};
+ghost use Rattle.std.specs.Prelude.{◌≡◌, ◌⊎◌, ◌↔◌, ◌+◌, ℕ, List, length, false, IfOk, OnOk, OnErr, IsErr, is_ok};
 ghost use Rattle.std.specs.Result.{result_ok};
 ghost use Rattle.hy_base.specs.Faults.{HasCause};
 ghost use Rattle.hy_base.specs.Moves.{Move, listen, dial, send, close, bytes_sent, is_dialled, came, InBuffer};
 ghost use Rattle.hy_base.specs.Net.{Calls as AddsCalls, Takes};
-ghost use Rattle.hy_base.specs.Script.{next_arrived, rest_of};
+ghost use Rattle.hy_base.specs.Script.{next_arrived, rest_behind, rest_of};
 ghost use Rattle.hy_base.specs.NetTape.{TellsTape, IsTold, IsFresh, FailsByNumber, FailsCall, calls_of};
+ghost use Rattle.hy_base.specs.NetTape.{LeavesTape, TakesNumber};
 
 use crate::arrival::{Arrival, Arrived};
 use crate::calls::{Calls, fault};
@@ -89,6 +90,9 @@ impl Net for NetTape {
         ensures cause { HasCause self.old.taking_faults self.new.taking_faults result }
         ensures other { self.new.sending_faults ≡ self.old.sending_faults }
         ensures fails { IsErr result ↔ FailsCall self.old 0 }
+        ensures leaves { LeavesTape self.old self.new 0 }
+        ensures number { TakesNumber self.old self.new }
+        ensures dialled { self.new.dialled ≡ self.old.dialled }
     {
         let fails = self.calls.next_fails();
         if !self.outbox.reserve(0) {
@@ -109,6 +113,11 @@ impl Net for NetTape {
         ensures other { self.new.taking_faults ≡ self.old.taking_faults }
         ensures fails { IsErr result
             ↔ (FailsCall self.old 0 ⊎ (self.old.dialled ≡ u32.MAX)) }
+        ensures next { IfOk result (λ conn. conn ≡ self.old.dialled + 1) }
+        ensures dialled { OnOk result (self.new.dialled ≡ self.old.dialled + 1) }
+        ensures undialled { OnErr result (self.new.dialled ≡ self.old.dialled) }
+        ensures leaves { LeavesTape self.old self.new 0 }
+        ensures number { TakesNumber self.old self.new }
     {
         let fails = self.calls.next_fails();
         if !self.outbox.reserve(0) {
@@ -135,6 +144,12 @@ impl Net for NetTape {
         ensures fails { IsErr result ↔ FailsByNumber self.old }
         ensures gives { IfOk result (λ arrival. came arrival buf.new
             ≡ next_arrived (length buf.old) (rest_of self.old.script)) }
+        ensures rest { OnOk result
+            (rest_of self.new.script ≡ rest_behind (length buf.old) (rest_of self.old.script)) }
+        ensures unmoved { OnErr result (self.new.script ≡ self.old.script) }
+        ensures outbox { self.new.outbox ≡ self.old.outbox }
+        ensures number { TakesNumber self.old self.new }
+        ensures dialled { self.new.dialled ≡ self.old.dialled }
     {
         if self.calls.next_fails() {
             return Err(fault(&mut self.taking_faults));
@@ -148,6 +163,9 @@ impl Net for NetTape {
         ensures cause { HasCause self.old.sending_faults self.new.sending_faults result }
         ensures other { self.new.taking_faults ≡ self.old.taking_faults }
         ensures fails { IsErr result ↔ FailsCall self.old (length bytes.now) }
+        ensures leaves { LeavesTape self.old self.new (length bytes.now) }
+        ensures number { TakesNumber self.old self.new }
+        ensures dialled { self.new.dialled ≡ self.old.dialled }
     {
         let fails = self.calls.next_fails();
         if !self.outbox.reserve(bytes.len()) {
@@ -169,6 +187,9 @@ impl Net for NetTape {
         ensures tells { AddsCalls IsTold TellsTape self.old self.new (close conn) }
         ensures taking { self.new.taking_faults ≡ self.old.taking_faults }
         ensures sending { self.new.sending_faults ≡ self.old.sending_faults }
+        ensures leaves { LeavesTape self.old self.new 0 }
+        ensures calls { self.new.calls ≡ self.old.calls }
+        ensures dialled { self.new.dialled ≡ self.old.dialled }
     {
         if self.outbox.reserve(0) {
             self.outbox.keep(NetCall::Close { conn });

@@ -13,6 +13,8 @@ ghost use Rattle.hy_cwire.specs.Says.{say_in};
 ghost use Rattle.hy_cwire.specs.Readers.{IsAskAt, IsSayAt};
 ghost use Rattle.hy_cwire.specs.Writing.{IsSendable, IsSendableSay, IsAnswerTo, ask_bytes, say_bytes};
 
+use crate::block::MAX_HEAD;
+
 /// What the bytes of a request come to depends on them alone, however they were cut.
 pub fn cuts_of_requests_do_not_matter()
     ensures { (bytes : List ℕ) (a b : Progress AskHead) → IsOpen a → IsOpen b
@@ -40,4 +42,9 @@ pub fn written_answers_are_read_back()
         → IsSendableSay say → IsAnswerTo asked say → IsOpen at
         → IsSayAt (say_bytes say ++ behind) at
         → next_answer (say_in asked) at ≡ Ok (Some say) }
+{}
+
+/// The limit has this number: a clause that cites it by its name speaks of no other.
+pub fn limits_have_these_numbers()
+    ensures head { MAX_HEAD ≡ 8192 }
 {}
