@@ -1,5 +1,5 @@
 -- Keys: which texts spell one, and what is wrong with the others.
-use Rattle.std.specs.Prelude.{ℕ, Bool, ◌&&◌, ◌||◌, ◌==◌, not, nat_lt, nat_le, List, length, Option, Some, None, Result, Ok, Err, if◌then◌else◌}
+use Rattle.std.specs.Prelude.{ℕ, Bool, false, ◌&&◌, ◌||◌, ◌==◌, not, nat_lt, nat_le, List, [], ◌∷◌, length, Option, Some, None, Result, Ok, Err, if◌then◌else◌}
 use Rattle.std.specs.List.{list_all, position}
 use Rattle.std.specs.Cmp.Lexicographic.{pointwise}
 use Rattle.hy_base.specs.declared.limits.TheConstants.{MAX_KEY}
@@ -32,3 +32,8 @@ key_of text =
 -- the two are one
 unfoldable pub key_eq : List ℕ → List ℕ → Bool
 key_eq a b = pointwise ◌==◌ a b
+
+-- swaps alone write the key: it begins with an underscore
+abbrev pub is_cell : List ℕ → Bool
+is_cell [] = false
+is_cell (first ∷ others) = first == 95

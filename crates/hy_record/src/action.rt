@@ -8,13 +8,28 @@ use hy_base::Blob;
 #[derive(Debug, Drop, PartialEq, Eq)]
 pub enum Action {
     /// Store the value under the key.
-    Put { key: Key, value: Blob },
+    Put {
+        key: Key,
+        value: Blob,
+    },
     /// Answer the value under the key.
-    Get { key: Key },
+    Get {
+        key: Key,
+    },
     /// Make the key absent.
-    Delete { key: Key },
+    Delete {
+        key: Key,
+    },
     /// Delete superseded versions of the key from the clouds.
-    Collect { key: Key },
+    Collect {
+        key: Key,
+    },
+    /// Store the value under the key, if its record has the expected timestamp; (0, 0) stands for no record.
+    Swap {
+        key: Key,
+        expected: Stamp,
+        value: Blob,
+    },
 }
 
 /// What a client is told.
@@ -30,6 +45,10 @@ pub enum Reply {
     Absent(Stamp),
     /// So many superseded versions were deleted.
     Collected(u32),
+    /// The swap was done, with this timestamp.
+    Swapped(Stamp),
+    /// The record had this timestamp, which is not the expected one: nothing was changed.
+    Changed(Stamp),
 }
 
 /// How far an operation without a reply is.

@@ -6,7 +6,7 @@ ghost use Rattle.std.specs.Cmp.{partial_order_from_own_ties};
 ghost use Rattle.std.specs.Cmp.Rules.{comparing};
 ghost use Rattle.std.specs.Cmp.Lexicographic.{pointwise, slice_cmp};
 ghost use Rattle.std.specs.Ordering.{nat_cmp, as_partial_cmp};
-ghost use Rattle.hy_record.specs.Key.{key_of, key_eq, is_key, is_key_byte, first_bad_byte};
+ghost use Rattle.hy_record.specs.Key.{key_of, key_eq, is_key, is_key_byte, first_bad_byte, is_cell};
 
 use hy_base::MAX_KEY;
 use std::cmp::Ordering;
@@ -79,6 +79,13 @@ impl Key {
         ensures { result ≡ key_eq self.now other.now }
     {
         *self == *other
+    }
+
+    /// Whether swaps alone write the key: it begins with an underscore.
+    pub fn is_cell(&self) -> bool
+        ensures { result ≡ is_cell self.now }
+    {
+        self.bytes().first() == Some(&b'_')
     }
 }
 

@@ -41,6 +41,14 @@ pub enum MetaAsk {
         key: Key,
         stamps: Stamps,
     },
+    /// Make this the record of the key, if that of the record is the expected timestamp and below its own; (0, 0) stands for no record.
+    Swap {
+        client: u32,
+        op: u32,
+        key: Key,
+        expected: Stamp,
+        rec: Record,
+    },
 }
 
 /// What the metadata service answers, to the client and the operation that asked.
@@ -86,5 +94,19 @@ pub enum MetaSay {
         client: u32,
         op: u32,
         key: Key,
+    },
+    /// The swap of this timestamp made its record that of the key.
+    Swapped {
+        client: u32,
+        op: u32,
+        key: Key,
+        stamp: Stamp,
+    },
+    /// The swap was refused: the record of the key, of this timestamp, stayed.
+    Changed {
+        client: u32,
+        op: u32,
+        key: Key,
+        stamp: Stamp,
     },
 }

@@ -49,7 +49,15 @@ impl Record {
         requires { IsWritten stamp }
         ensures { IfOk result (λ r. r ≡ tombstone stamp) }
     {
-        Ok(Record {
+        Ok(Record::deletion(alloc, stamp))
+    }
+
+    /// The record of a deletion, which takes no memory.
+    pub fn deletion(alloc: Global, stamp: Stamp) -> Record
+        requires { IsWritten stamp }
+        ensures { result ≡ tombstone stamp }
+    {
+        Record {
             stamp: stamp.known(),
             kind: Kind::Tomb,
             size: 0,
@@ -57,7 +65,7 @@ impl Record {
             k: 0,
             clouds: 0,
             hashes: Vec::new(alloc),
-        })
+        }
     }
 
     /// The record of a value of so many bytes, which the listed clouds hold: bit i of `clouds` stands for cloud i.
@@ -80,15 +88,35 @@ impl Record {
         ensures { IfOk result (λ r. r ≡ record_of_value stamp size f k clouds hashes.now) }
     {
         let hashes = copied(alloc, hashes)?;
-        Ok(Record {
+        Ok(Record::of_hashes(stamp, size, f, k, clouds, hashes))
+    }
+
+    /// The record of a value, as `value` makes it, over hashes that lie in memory already.
+    pub fn of_hashes(
+        stamp: Stamp,
+        size: u32,
+        f: u8,
+        k: u8,
+        clouds: u16,
+        hashes: Vec<Hash>,
+    ) -> Record
+        requires written { IsWritten stamp }
+        requires size { size ≤ MAX_VALUE }
+        requires shape { IsShape f k }
+        requires quorum { IsTrue (is_cloud_list f k clouds) }
+        requires hashed { length hashes.items ≡ hash_count (kind_of_parts k) f k }
+        requires sizes { All IsHash hashes.items }
+        ensures { result ≡ record_of_value stamp size f k clouds hashes.items }
+    {
+        Record {
             stamp: stamp.known(),
-            kind: if k == 1 { Kind::Whole } else { Kind::Coded },
+            kind: kind_of_parts(k),
             size,
             f,
             k,
             clouds,
             hashes,
-        })
+        }
     }
 
     /// The same record in memory of its own.
@@ -210,6 +238,13 @@ impl Record {
             Kind::Whole | Kind::Coded => false,
         }
     }
+}
+
+/// How a value is cut into so many parts.
+fn kind_of_parts(k: u8) -> Kind
+    ensures { result ≡ kind_of_parts k }
+{
+    if k == 1 { Kind::Whole } else { Kind::Coded }
 }
 
 impl PartialEq for Record {
