@@ -1,9 +1,10 @@
 -- What is kept of each key stands for the requests: one request more changes the entry of its key alone.
 use Rattle.std.proofs.Common.{◌≡◌, ℕ, Bool, true, false, cond, not, List, [], ◌∷◌, ◌++◌, Option, Some, None, refl, sym, ap, ◌∙◌, inl, inr}
-use Rattle.std.specs.Prelude.{◌&&◌, ◌||◌, filter}
+use Rattle.std.specs.Prelude.{◌&&◌, ◌||◌, map, take}
 use Rattle.std.proofs.lemmas.List.{append-nil}
 use Rattle.hy_record.specs.declared.message.MetaAsk.{MetaAsk}
 use Rattle.hy_record.specs.declared.message.MetaAsk.TheVariants as asks
+use Rattle.hy_record.specs.declared.message.MetaSay.{MetaSay}
 use Rattle.hy_record.specs.declared.message.MetaSay.TheVariants as says
 use Rattle.hy_record.specs.Stamp.{Timestamp, stamp_lt, stamp_eq}
 use Rattle.hy_record.specs.Stamps.{is_rising}
@@ -11,12 +12,12 @@ use Rattle.hy_record.specs.Key.{key_eq}
 use Rattle.hy_record.specs.Record.{RecordValue}
 use Rattle.hy_record.proofs.Order.{key_eq-true, stamp_lt-other}
 use Rattle.hy_meta.specs.declared.watcher.Watcher.{Watcher}
-use Rattle.hy_meta.specs.Service.{stamp_of_record, record_after, record_stamp, outdates, has_stamp, is_old}
-use Rattle.hy_meta.specs.Watches.{watches_of, is_passed, fired_watches, is_waiting, waiting_watches, watches_on}
-use Rattle.hy_meta.specs.Meta.{service_answers}
-use Rattle.hy_meta.specs.Held.{is_due}
-use Rattle.hy_meta.specs.Entry.{EntryValue, no_entry, entry_stamp, olds_after, watches_below, watches_from, updated, watched, forgotten, entry_answers, SameEntries, EntryBecomes, EntriesStandFor}
+use Rattle.hy_meta.specs.Service.{Attempt, attempt_of, is_judged, applies, stamp_of_record, record_after, record_stamp, outdates, outdated_by, has_stamp, forgets, is_old}
+use Rattle.hy_meta.specs.Watches.{watches_of, is_passed, fired_watches, is_waiting, waiting_watches, watches_on, is_due, fired}
+use Rattle.hy_meta.specs.Meta.{judged_answer, fired_by, service_answers}
+use Rattle.hy_meta.specs.Entry.{EntryValue, no_entry, entry_stamp, olds_settled, watches_below, watches_from, tried, tried_say, tried_answers, waited, watched, watch_answers, forgotten, SameEntries, EntryPut, EntriesStandFor}
 use Rattle.hy_meta.proofs.Rising.{cases_bool, has_stamp-insert, has_stamp-filter}
+use Rattle.hy_meta.proofs.Lasting.{applied-parts, record-quiet}
 use Rattle.hy_meta.proofs.Steps.{filter-same, filter-twice, record_after-applied, record_after-refused, is_passed-waiting, outdated-here, old_list-rising, waiting-applied, waiting-refused, waiting-watch, on-due, on-applied, on-push}
 
 -- ---- choices
@@ -53,7 +54,7 @@ forgets-at k key f new listed is =
       | inr other ↦ rw other refl
     ]
 
--- ---- what an update makes of an entry
+-- ---- what an attempt makes of an entry
 
 held-only : (a b : Bool) → ((a && true) || (b && false)) ≡ a
 held-only true b = refl
@@ -72,38 +73,49 @@ neither-one true false = refl
 neither-one false true = refl
 neither-one false false = refl
 
-olds_after-has : (held : Option RecordValue) (new : Timestamp) (olds : List Timestamp) (t : Timestamp) → has_stamp (olds_after held new olds) t ≡ (outdates held new t || has_stamp olds t)
+-- what is superseded behind an attempt
+settled-has : (held : Option RecordValue) (a : Attempt) (olds : List Timestamp) (t : Timestamp) → has_stamp (olds_settled held (applies held a) a.rec olds) t ≡ (outdates held a t || has_stamp olds t)
 unfolding outdates
-olds_after-has None new olds t = refl
-olds_after-has (Some held) new olds t =
-    elim (cases_bool (stamp_lt held.stamp new)) [
-      | inl above ↦
-          let below : stamp_lt new held.stamp ≡ false = stamp_lt-other held.stamp new above in
-          rw (above, below) (has_stamp-insert held.stamp olds t ∙ ap (λ (b : Bool). b || has_stamp olds t) (sym (held-only (stamp_eq held.stamp t) (stamp_eq new t))))
-      | inr not_above ↦ elim (cases_bool (stamp_lt new held.stamp)) [
-        | inl below ↦ rw (not_above, below) (has_stamp-insert new olds t ∙ ap (λ (b : Bool). b || has_stamp olds t) (sym (own-only (stamp_eq held.stamp t) (stamp_eq new t))))
-        | inr equal ↦ rw (not_above, equal) (ap (λ (b : Bool). b || has_stamp olds t) (sym (neither-one (stamp_eq held.stamp t) (stamp_eq new t))))
+settled-has None a olds t =
+    elim (cases_bool (applies None a)) [
+      | inl applied ↦ rw applied refl
+      | inr refused ↦ elim (cases_bool (stamp_lt a.rec.stamp (stamp_of_record None))) [
+        | inl below ↦ rw (refused, below) refl
+        | inr other ↦ rw (refused, other) refl
       ]
     ]
-
-pub updated-applied : (e : EntryValue) (r : RecordValue) → stamp_lt (entry_stamp e) r.stamp ≡ true → updated e r ≡ record { rec = Some r; olds = olds_after e.rec r.stamp e.olds; watches = watches_from r.stamp e.watches }
-updated-applied e r above = rw above refl
-
-pub updated-refused : (e : EntryValue) (r : RecordValue) → stamp_lt (entry_stamp e) r.stamp ≡ false → updated e r ≡ record e { olds = olds_after e.rec r.stamp e.olds }
-updated-refused e r below = rw below refl
-
-updated-olds : (e : EntryValue) (r : RecordValue) → (updated e r).olds ≡ olds_after e.rec r.stamp e.olds
-updated-olds e r =
-    elim (cases_bool (stamp_lt (entry_stamp e) r.stamp)) [
-      | inl above ↦ ap (λ (x : EntryValue). x.olds) (updated-applied e r above)
-      | inr below ↦ ap (λ (x : EntryValue). x.olds) (updated-refused e r below)
+settled-has (Some held) a olds t =
+    elim (cases_bool (applies (Some held) a)) [
+      | inl applied ↦
+          let below : stamp_lt a.rec.stamp held.stamp ≡ false = stamp_lt-other held.stamp a.rec.stamp (applied-parts (Some held) a applied).1 in
+          rw (applied, below) (has_stamp-insert held.stamp olds t ∙ ap (λ (b : Bool). b || has_stamp olds t) (sym (held-only (stamp_eq held.stamp t) (stamp_eq a.rec.stamp t))))
+      | inr refused ↦ elim (cases_bool (stamp_lt a.rec.stamp held.stamp)) [
+        | inl below ↦ rw (refused, below) (has_stamp-insert a.rec.stamp olds t ∙ ap (λ (b : Bool). b || has_stamp olds t) (sym (own-only (stamp_eq held.stamp t) (stamp_eq a.rec.stamp t))))
+        | inr equal ↦ rw (refused, equal) (ap (λ (b : Bool). b || has_stamp olds t) (sym (neither-one (stamp_eq held.stamp t) (stamp_eq a.rec.stamp t))))
+      ]
     ]
 
 pub watched-due : (e : EntryValue) (w : Watcher) → stamp_lt w.stamp (entry_stamp e) ≡ true → watched e w ≡ e
 watched-due e w due = rw due refl
 
-pub watched-waits : (e : EntryValue) (w : Watcher) → stamp_lt w.stamp (entry_stamp e) ≡ false → watched e w ≡ record e { watches = e.watches ++ w ∷ [] }
+pub watched-waits : (e : EntryValue) (w : Watcher) → stamp_lt w.stamp (entry_stamp e) ≡ false → watched e w ≡ waited e w
 watched-waits e w waits = rw waits refl
+
+-- a request that attempts something forgets nothing
+forgets-tried : (before : List MetaAsk) (ask : MetaAsk) (a : Attempt) (key : List ℕ) (t : Timestamp) → attempt_of before ask ≡ Some a → forgets ask key t ≡ false
+forgets-tried before (asks.Read c o k) a key t is = refl
+forgets-tried before (asks.Update c o k r) a key t is = refl
+forgets-tried before (asks.Watch c o k stamp) a key t is = refl
+forgets-tried before (asks.Olds c o k) a key t is = refl
+forgets-tried before (asks.Forget c o k stamps) a key t is = absurd cc
+forgets-tried before (asks.Swap c o k expected r) a key t is = refl
+
+old-tried : (before : List MetaAsk) (ask : MetaAsk) (a : Attempt) (key : List ℕ) (t : Timestamp) → attempt_of before ask ≡ Some a
+    → is_old (ask ∷ before) key t ≡ ((key_eq a.key key && outdates (record_after before key) a t) || is_old before key t)
+unfolding is_old
+old-tried before ask a key t made =
+    ap (λ (o : Option Attempt). outdated_by o key (record_after before key) t || (not (forgets ask key t) && is_old before key t)) made
+    ∙ ap (λ (b : Bool). (key_eq a.key key && outdates (record_after before key) a t) || (not b && is_old before key t)) (forgets-tried before ask a key t made)
 
 -- ---- one request more
 
@@ -115,6 +127,33 @@ module _ (old : List ℕ → EntryValue) (before : List MetaAsk) (s : EntriesSta
   pub stands-olds : (client op : ℕ) (k : List ℕ) → EntriesStandFor old (asks.Olds client op k ∷ before)
   unfolding record_after is_old is_waiting watches_of record_stamp
   stands-olds client op k = record { records = s.records; olds = s.olds; watches = s.watches }
+
+  -- a swap that is not judged changes nothing
+  module _ (client op : ℕ) (k : List ℕ) (expected : Timestamp) (r : RecordValue) (repeated : is_judged before client op ≡ false) where
+    abbrev again : MetaAsk
+    again = asks.Swap client op k expected r
+
+    none-tried : attempt_of before again ≡ None
+    none-tried = rw repeated refl
+
+    old-quiet : (key : List ℕ) (t : Timestamp) → is_old (again ∷ before) key t ≡ is_old before key t
+    unfolding is_old
+    old-quiet key t = ap (λ (o : Option Attempt). outdated_by o key (record_after before key) t || is_old before key t) none-tried
+
+    waits-quiet : (w : Watcher) → is_waiting before w ≡ is_waiting (again ∷ before) w
+    unfolding is_waiting record_stamp
+    waits-quiet w = ap (λ (x : Option RecordValue). not (stamp_lt w.stamp (stamp_of_record x))) (sym (record-quiet again before w.key none-tried))
+
+    waiting-quiet : waiting_watches before ≡ waiting_watches (again ∷ before)
+    unfolding watches_of
+    waiting-quiet = filter-same (λ w. is_waiting before w) (λ w. is_waiting (again ∷ before) w) waits-quiet (watches_of before)
+
+    pub stands-repeated : EntriesStandFor old (again ∷ before)
+    stands-repeated = record {
+      records = λ key. s.records key ∙ sym (record-quiet again before key none-tried);
+      olds = λ key t. s.olds key t ∙ sym (old-quiet key t);
+      watches = λ key. s.watches key ∙ ap (λ (ws : List Watcher). watches_on key ws) waiting-quiet;
+    }
 
 pub stands-same : (old new : List ℕ → EntryValue) (before : List MetaAsk) → SameEntries old new → EntriesStandFor old before → EntriesStandFor new before
 stands-same old new before same s = record {
@@ -133,57 +172,62 @@ module _ (old new : List ℕ → EntryValue) (before : List MetaAsk) (s : Entrie
   left f k e becomes stays key =
       part f k e becomes key ∙ ap (λ x. cond (key_eq k key) x (f (old key))) stays ∙ at_own k key (λ x. f (old x))
 
-  same-after : (k : List ℕ) → ((key : List ℕ) → new key ≡ cond (key_eq k key) (old k) (old key)) → SameEntries old new
-  same-after k becomes key = becomes key ∙ at_own k key old
-
-  held-is : (k : List ℕ) (t : Timestamp) (b : Bool) → stamp_lt (entry_stamp (old k)) t ≡ b → stamp_lt (stamp_of_record (record_after before k)) t ≡ b
-  held-is k t b e = ap (λ (o : Option RecordValue). stamp_lt (stamp_of_record o) t) (sym (s.records k)) ∙ e
-
   held-above : (k : List ℕ) (t : Timestamp) (b : Bool) → stamp_lt t (entry_stamp (old k)) ≡ b → stamp_lt t (stamp_of_record (record_after before k)) ≡ b
   held-above k t b e = ap (λ (o : Option RecordValue). stamp_lt t (stamp_of_record o)) (sym (s.records k)) ∙ e
 
-  -- what is superseded after an update
-  olds-update : (client op : ℕ) (k : List ℕ) (r : RecordValue) (key : List ℕ) (t : Timestamp) → ((key_eq k key && outdates (old k).rec r.stamp t) || has_stamp (old key).olds t) ≡ is_old (asks.Update client op k r ∷ before) key t
-  unfolding is_old
-  olds-update client op k r key t =
-      ap (λ (b : Bool). b || has_stamp (old key).olds t) (outdated-here k key (λ x. (old x).rec) (λ x. record_after before x) r.stamp t s.records)
-      ∙ ap (λ (b : Bool). (key_eq k key && outdates (record_after before key) r.stamp t) || b) (s.olds key t)
+  module _ (ask : MetaAsk) (a : Attempt) (made : attempt_of before ask ≡ Some a) (puts : EntryPut old new a.key (tried (old a.key) a)) where
+    abbrev k : List ℕ
+    k = a.key
 
-  olds-updated : (client op : ℕ) (k : List ℕ) (r : RecordValue) → ((key : List ℕ) → new key ≡ cond (key_eq k key) (updated (old k) r) (old key)) → (key : List ℕ) (t : Timestamp) → has_stamp (new key).olds t ≡ is_old (asks.Update client op k r ∷ before) key t
-  olds-updated client op k r becomes key t =
-      let has : EntryValue → Bool = λ e. has_stamp e.olds t in
-      let own : has (updated (old k) r) ≡ (outdates (old k).rec r.stamp t || has (old k)) =
-      ap (λ (xs : List Timestamp). has_stamp xs t) (updated-olds (old k) r) ∙ olds_after-has (old k).rec r.stamp (old k).olds t in
-      part has k (updated (old k) r) becomes key ∙ at_key k key (λ x. has (old x)) (has (updated (old k) r)) (outdates (old k).rec r.stamp t) own ∙ olds-update client op k r key t
+    abbrev after : EntryValue
+    after = tried (old a.key) a
 
-  stands-applied : (client op : ℕ) (k : List ℕ) (r : RecordValue) → stamp_lt (entry_stamp (old k)) r.stamp ≡ true → ((key : List ℕ) → new key ≡ cond (key_eq k key) (updated (old k) r) (old key)) → EntriesStandFor new (asks.Update client op k r ∷ before)
-  stands-applied client op k r above becomes =
-      let held = held-is k r.stamp true above in
-      let is = updated-applied (old k) r above in
-      record {
-        records = λ key. part (λ e. e.rec) k (updated (old k) r) becomes key ∙ ap (λ (e : EntryValue). cond (key_eq k key) e.rec (old key).rec) is
-            ∙ ap (λ (o : Option RecordValue). cond (key_eq k key) (Some r) o) (s.records key) ∙ sym (record_after-applied before client op k r key held);
-        olds = olds-updated client op k r becomes;
-        watches = λ key. part (λ e. e.watches) k (updated (old k) r) becomes key ∙ ap (λ (e : EntryValue). cond (key_eq k key) e.watches (old key).watches) is
-            ∙ ap (λ (ws : List Watcher). cond (key_eq k key) (watches_from r.stamp ws) (old key).watches) (s.watches k)
-            ∙ ap (λ (ws : List Watcher). cond (key_eq k key) (watches_from r.stamp (watches_on k (waiting_watches before))) ws) (s.watches key)
-            ∙ sym (on-applied k key r.stamp (waiting_watches before)) ∙ ap (λ (ws : List Watcher). watches_on key ws) (sym (waiting-applied before client op k r held));
-      }
+    applies-is : applies (old k).rec a ≡ applies (record_after before k) a
+    applies-is = ap (λ (o : Option RecordValue). applies o a) (s.records k)
 
-  stands-refused : (client op : ℕ) (k : List ℕ) (r : RecordValue) → stamp_lt (entry_stamp (old k)) r.stamp ≡ false → ((key : List ℕ) → new key ≡ cond (key_eq k key) (updated (old k) r) (old key)) → EntriesStandFor new (asks.Update client op k r ∷ before)
-  stands-refused client op k r below becomes =
-      let held = held-is k r.stamp false below in
-      let is = updated-refused (old k) r below in
-      record {
-        records = λ key. left (λ e. e.rec) k (updated (old k) r) becomes (ap (λ (e : EntryValue). e.rec) is) key ∙ s.records key ∙ sym (record_after-refused before client op k r key held);
-        olds = olds-updated client op k r becomes;
-        watches = λ key. left (λ e. e.watches) k (updated (old k) r) becomes (ap (λ (e : EntryValue). e.watches) is) key ∙ s.watches key ∙ ap (λ (ws : List Watcher). watches_on key ws) (sym (waiting-refused before client op k r held));
-      }
+    olds-tried : (key : List ℕ) (t : Timestamp) → has_stamp (new key).olds t ≡ is_old (ask ∷ before) key t
+    olds-tried key t =
+        let has : EntryValue → Bool = λ e. has_stamp e.olds t in
+        part has k after puts key ∙ at_key k key (λ x. has (old x)) (has after) (outdates (old k).rec a t) (settled-has (old k).rec a (old k).olds t)
+        ∙ ap (λ (b : Bool). b || has (old key)) (outdated-here key a (λ x. (old x).rec) (λ x. record_after before x) t s.records)
+        ∙ ap (λ (b : Bool). (key_eq k key && outdates (record_after before key) a t) || b) (s.olds key t)
+        ∙ sym (old-tried before ask a key t made)
 
-  stands-watch : (client op : ℕ) (k : List ℕ) (stamp : Timestamp) (b : Bool) → stamp_lt stamp (entry_stamp (old k)) ≡ b
-      → ((key : List ℕ) → new key ≡ cond (key_eq k key) (watched (old k) (record { client = client; op = op; key = k; stamp = stamp })) (old key)) → EntriesStandFor new (asks.Watch client op k stamp ∷ before)
+    stands-applied : applies (old k).rec a ≡ true → EntriesStandFor new (ask ∷ before)
+    stands-applied is =
+        let held : applies (record_after before k) a ≡ true = sym applies-is ∙ is in
+        record {
+          records = λ key. part (λ e. e.rec) k after puts key ∙ ap (λ (b : Bool). cond (key_eq k key) (cond b (Some a.rec) (old k).rec) (old key).rec) is
+              ∙ ap (λ (o : Option RecordValue). cond (key_eq k key) (Some a.rec) o) (s.records key) ∙ sym (record_after-applied before ask a key made held);
+          olds = olds-tried;
+          watches = λ key. part (λ e. e.watches) k after puts key ∙ ap (λ (b : Bool). cond (key_eq k key) (cond b (watches_from a.rec.stamp (old k).watches) (old k).watches) (old key).watches) is
+              ∙ ap (λ (ws : List Watcher). cond (key_eq k key) (watches_from a.rec.stamp ws) (old key).watches) (s.watches k)
+              ∙ ap (λ (ws : List Watcher). cond (key_eq k key) (watches_from a.rec.stamp (watches_on k (waiting_watches before))) ws) (s.watches key)
+              ∙ sym (on-applied k key a.rec.stamp (waiting_watches before)) ∙ ap (λ (ws : List Watcher). watches_on key ws) (sym (waiting-applied before ask a made held));
+        }
+
+    stands-refused : applies (old k).rec a ≡ false → EntriesStandFor new (ask ∷ before)
+    stands-refused is =
+        let held : applies (record_after before k) a ≡ false = sym applies-is ∙ is in
+        record {
+          records = λ key. left (λ e. e.rec) k after puts (ap (λ (b : Bool). cond b (Some a.rec) (old k).rec) is) key ∙ s.records key ∙ sym (record_after-refused before ask a key made held);
+          olds = olds-tried;
+          watches = λ key. left (λ e. e.watches) k after puts (ap (λ (b : Bool). cond b (watches_from a.rec.stamp (old k).watches) (old k).watches) is) key ∙ s.watches key
+              ∙ ap (λ (ws : List Watcher). watches_on key ws) (sym (waiting-refused before ask a made held));
+        }
+
+    -- the entries stand for an attempt more
+    pub stands-tried : EntriesStandFor new (ask ∷ before)
+    stands-tried =
+        elim (cases_bool (applies (old k).rec a)) [
+          | inl applied ↦ stands-applied applied
+          | inr refused ↦ stands-refused refused
+        ]
+
+  stands-watch_by : (client op : ℕ) (k : List ℕ) (stamp : Timestamp) (b : Bool) → stamp_lt stamp (entry_stamp (old k)) ≡ b
+      → EntryPut old new k (watched (old k) (record { client = client; op = op; key = k; stamp = stamp })) → EntriesStandFor new (asks.Watch client op k stamp ∷ before)
   unfolding record_after is_old
-  stands-watch client op k stamp true due becomes =
+  stands-watch_by client op k stamp true due becomes =
       let w : Watcher = record { client = client; op = op; key = k; stamp = stamp } in
       let is = watched-due (old k) w due in
       let none = waiting-watch before client op k stamp true (held-above k stamp true due) ∙ append-nil (waiting_watches before) in
@@ -192,7 +236,7 @@ module _ (old new : List ℕ → EntryValue) (before : List MetaAsk) (s : Entrie
         olds = λ key t. left (λ e. has_stamp e.olds t) k (watched (old k) w) becomes (ap (λ (e : EntryValue). has_stamp e.olds t) is) key ∙ s.olds key t;
         watches = λ key. left (λ e. e.watches) k (watched (old k) w) becomes (ap (λ (e : EntryValue). e.watches) is) key ∙ s.watches key ∙ ap (λ (ws : List Watcher). watches_on key ws) (sym none);
       }
-  stands-watch client op k stamp false waits becomes =
+  stands-watch_by client op k stamp false waits becomes =
       let w : Watcher = record { client = client; op = op; key = k; stamp = stamp } in
       let is = watched-waits (old k) w waits in
       let more = waiting-watch before client op k stamp false (held-above k stamp false waits) in
@@ -205,7 +249,10 @@ module _ (old new : List ℕ → EntryValue) (before : List MetaAsk) (s : Entrie
             ∙ sym (on-push k key (waiting_watches before) w refl) ∙ ap (λ (ws : List Watcher). watches_on key ws) (sym more);
       }
 
-  stands-forget : (client op : ℕ) (k : List ℕ) (stamps : List Timestamp) → ((key : List ℕ) → new key ≡ cond (key_eq k key) (forgotten (old k) stamps) (old key)) → EntriesStandFor new (asks.Forget client op k stamps ∷ before)
+  pub stands-watch : (client op : ℕ) (k : List ℕ) (stamp : Timestamp) → EntryPut old new k (watched (old k) (record { client = client; op = op; key = k; stamp = stamp })) → EntriesStandFor new (asks.Watch client op k stamp ∷ before)
+  stands-watch client op k stamp becomes = stands-watch_by client op k stamp (stamp_lt stamp (entry_stamp (old k))) refl becomes
+
+  pub stands-forget : (client op : ℕ) (k : List ℕ) (stamps : List Timestamp) → EntryPut old new k (forgotten (old k) stamps) → EntriesStandFor new (asks.Forget client op k stamps ∷ before)
   unfolding record_after is_old is_waiting watches_of record_stamp
   stands-forget client op k stamps becomes =
       let e : EntryValue = forgotten (old k) stamps in
@@ -216,22 +263,6 @@ module _ (old new : List ℕ → EntryValue) (before : List MetaAsk) (s : Entrie
             ∙ ap (λ (b : Bool). not (key_eq k key && has_stamp stamps t) && b) (s.olds key t);
         watches = λ key. left (λ x. x.watches) k e becomes refl key ∙ s.watches key;
       }
-
--- the entries stand for one request more
-pub stands-after : (old new : List ℕ → EntryValue) (ask : MetaAsk) (before : List MetaAsk) → EntryBecomes old new ask → EntriesStandFor old before → EntriesStandFor new (ask ∷ before)
-stands-after old new (asks.Read client op k) before becomes s =
-    stands-same old new (asks.Read client op k ∷ before) (same-after old new before s k becomes) (stands-read old before s client op k)
-stands-after old new (asks.Olds client op k) before becomes s =
-    stands-same old new (asks.Olds client op k ∷ before) (same-after old new before s k becomes) (stands-olds old before s client op k)
-stands-after old new (asks.Watch client op k stamp) before becomes s =
-    stands-watch old new before s client op k stamp (stamp_lt stamp (entry_stamp (old k))) refl becomes
-stands-after old new (asks.Forget client op k stamps) before becomes s =
-    stands-forget old new before s client op k stamps becomes
-stands-after old new (asks.Update client op k r) before becomes s =
-    elim (cases_bool (stamp_lt (entry_stamp (old k)) r.stamp)) [
-      | inl above ↦ stands-applied old new before s client op k r above becomes
-      | inr below ↦ stands-refused old new before s client op k r below becomes
-    ]
 
 pub stands-new : (entry_at : List ℕ → EntryValue) → ((key : List ℕ) → entry_at key ≡ no_entry) → EntriesStandFor entry_at []
 unfolding record_after is_old watches_of has_stamp
@@ -244,35 +275,64 @@ stands-new entry_at none = record {
 -- ---- answers
 
 module _ (old : List ℕ → EntryValue) (before : List MetaAsk) (s : EntriesStandFor old before) where
-  says-update_by : (client op : ℕ) (k : List ℕ) (r : RecordValue) (b : Bool) → stamp_lt (entry_stamp (old k)) r.stamp ≡ b → entry_answers (old k) (asks.Update client op k r) ≡ service_answers before (asks.Update client op k r)
-  unfolding service_answers record_stamp fired_watches
-  says-update_by client op k r true above =
-      let held = held-is old old before s k r.stamp true above in
-      let passed : watches_below r.stamp (old k).watches ≡ filter (λ w. is_passed before k r.stamp w) (watches_of before) =
-      ap (λ (ws : List Watcher). watches_below r.stamp ws) (s.watches k) ∙ on-due k r.stamp (waiting_watches before) ∙ filter-twice (λ w. is_due k r.stamp w) (λ w. is_waiting before w) (watches_of before)
-      ∙ filter-same (λ w. is_waiting before w && is_due k r.stamp w) (λ w. is_passed before k r.stamp w) (λ w. sym (is_passed-waiting before k r.stamp w)) (watches_of before) in
-      rw (above, held, passed) refl
-  says-update_by client op k r false below =
-      let held = held-is old old before s k r.stamp false below in
-      rw (below, held) (ap (λ (o : Option RecordValue). says.Kept client op k (stamp_of_record o) ∷ []) (s.records k))
+  module _ (a : Attempt) where
+    applies-so : applies (old a.key).rec a ≡ applies (record_after before a.key) a
+    applies-so = ap (λ (o : Option RecordValue). applies o a) (s.records a.key)
 
-  pub says-update : (client op : ℕ) (k : List ℕ) (r : RecordValue) → entry_answers (old k) (asks.Update client op k r) ≡ service_answers before (asks.Update client op k r)
-  says-update client op k r = says-update_by client op k r (stamp_lt (entry_stamp (old k)) r.stamp) refl
+    ended : watches_below a.rec.stamp (old a.key).watches ≡ fired_watches before a.key a.rec.stamp
+    unfolding fired_watches
+    ended =
+        ap (λ (ws : List Watcher). watches_below a.rec.stamp ws) (s.watches a.key) ∙ on-due a.key a.rec.stamp (waiting_watches before)
+        ∙ filter-twice (λ w. is_due a.key a.rec.stamp w) (λ w. is_waiting before w) (watches_of before)
+        ∙ filter-same (λ w. is_waiting before w && is_due a.key a.rec.stamp w) (λ w. is_passed before a.key a.rec.stamp w) (λ w. sym (is_passed-waiting before a.key a.rec.stamp w)) (watches_of before)
 
-  pub says-watch : (client op : ℕ) (k : List ℕ) (stamp : Timestamp) → entry_answers (old k) (asks.Watch client op k stamp) ≡ service_answers before (asks.Watch client op k stamp)
+  pub says-update : (client op : ℕ) (k : List ℕ) (r : RecordValue) → tried_answers (old k) (record { client = client; op = op; key = k; rec = r; expected = None }) ≡ service_answers before (asks.Update client op k r)
+  unfolding service_answers record_stamp
+  says-update client op k r =
+      let a : Attempt = record { client = client; op = op; key = k; rec = r; expected = None } in
+      let same = applies-so a in
+      let watches = ended a in
+      elim (cases_bool (applies (record_after before k) a)) [
+        | inl applied ↦ (let own : applies (old k).rec a ≡ true = same ∙ applied in rw (own, applied, watches) refl)
+        | inr refused ↦ (let own : applies (old k).rec a ≡ false = same ∙ refused in rw (own, refused) (ap (λ (o : Option RecordValue). says.Kept client op k (stamp_of_record o) ∷ []) (s.records k)))
+      ]
+
+  -- the answer to a swap that is judged
+  pub says-judged : (client op : ℕ) (k : List ℕ) (expected : Timestamp) (r : RecordValue)
+      → tried_say (old k) (record { client = client; op = op; key = k; rec = r; expected = Some expected }) ≡ judged_answer before (record { client = client; op = op; key = k; rec = r; expected = Some expected })
+  unfolding judged_answer record_stamp
+  says-judged client op k expected r =
+      let a : Attempt = record { client = client; op = op; key = k; rec = r; expected = Some expected } in
+      let same = applies-so a in
+      elim (cases_bool (applies (record_after before k) a)) [
+        | inl applied ↦ (let own : applies (old k).rec a ≡ true = same ∙ applied in rw (own, applied) refl)
+        | inr refused ↦ (let own : applies (old k).rec a ≡ false = same ∙ refused in rw (own, refused) (ap (λ (o : Option RecordValue). says.Changed client op k (stamp_of_record o)) (s.records k)))
+      ]
+
+  pub says-swap : (client op : ℕ) (k : List ℕ) (expected : Timestamp) (r : RecordValue) → is_judged before client op ≡ true
+      → tried_answers (old k) (record { client = client; op = op; key = k; rec = r; expected = Some expected }) ≡ service_answers before (asks.Swap client op k expected r)
+  unfolding service_answers
+  says-swap client op k expected r judged =
+      let a : Attempt = record { client = client; op = op; key = k; rec = r; expected = Some expected } in
+      let first = says-judged client op k expected r in
+      let told : cond (applies (old k).rec a) (map fired (watches_below r.stamp (old k).watches)) [] ≡ fired_by before a =
+      ap (λ (b : Bool). cond b (map fired (watches_below r.stamp (old k).watches)) []) (applies-so a) ∙ ap (λ (ws : List Watcher). cond (applies (record_after before k) a) (map fired ws) []) (ended a) in
+      rw judged (ap (λ (say : MetaSay). say ∷ cond (applies (old k).rec a) (map fired (watches_below r.stamp (old k).watches)) []) first ∙ ap (λ (more : List MetaSay). judged_answer before a ∷ more) told)
+
+  pub says-watch : (client op : ℕ) (k : List ℕ) (stamp : Timestamp) → watch_answers (old k) (record { client = client; op = op; key = k; stamp = stamp }) ≡ service_answers before (asks.Watch client op k stamp)
   unfolding service_answers record_stamp
   says-watch client op k stamp =
       ap (λ (o : Option RecordValue). cond (stamp_lt stamp (stamp_of_record o)) (says.Fired client op k stamp ∷ []) []) (s.records k)
 
-  pub says-read : (client op : ℕ) (k : List ℕ) → entry_answers (old k) (asks.Read client op k) ≡ service_answers before (asks.Read client op k)
+  pub says-read : (client op : ℕ) (k : List ℕ) → says.Has client op k (old k).rec ∷ [] ≡ service_answers before (asks.Read client op k)
   unfolding service_answers
   says-read client op k = ap (λ (o : Option RecordValue). says.Has client op k o ∷ []) (s.records k)
 
-  pub says-olds : (client op : ℕ) (k : List ℕ) → is_rising (old k).olds ≡ true → entry_answers (old k) (asks.Olds client op k) ≡ service_answers before (asks.Olds client op k)
+  pub says-olds : (client op : ℕ) (k : List ℕ) → is_rising (old k).olds ≡ true → says.OldList client op k (take 256 (old k).olds) ∷ [] ≡ service_answers before (asks.Olds client op k)
   unfolding service_answers
   says-olds client op k rising =
       ap (λ (ts : List Timestamp). says.OldList client op k ts ∷ []) (old_list-rising before k (old k).olds rising (s.olds k))
 
-  pub says-forgot : (client op : ℕ) (k : List ℕ) (stamps : List Timestamp) → entry_answers (old k) (asks.Forget client op k stamps) ≡ service_answers before (asks.Forget client op k stamps)
+  pub says-forgot : (client op : ℕ) (k : List ℕ) (stamps : List Timestamp) → says.Forgot client op k ∷ [] ≡ service_answers before (asks.Forget client op k stamps)
   unfolding service_answers
   says-forgot client op k stamps = refl
