@@ -18,6 +18,8 @@ says_to client op key (says.Kept c o k s) = c == client && o == op && key_eq k k
 says_to client op key (says.Fired c o k s) = c == client && o == op && key_eq k key
 says_to client op key (says.OldList c o k ss) = c == client && o == op && key_eq k key
 says_to client op key (says.Forgot c o k) = c == client && o == op && key_eq k key
+says_to client op key (says.Swapped c o k s) = c == client && o == op && key_eq k key
+says_to client op key (says.Changed c o k s) = c == client && o == op && key_eq k key
 
 -- the input is for this operation
 unfoldable pub addresses : ℕ → ℕ → List ℕ → Cue → Bool
@@ -33,6 +35,8 @@ has_of (cues.Meta (says.Kept c o k s)) = None
 has_of (cues.Meta (says.Fired c o k s)) = None
 has_of (cues.Meta (says.OldList c o k ss)) = None
 has_of (cues.Meta (says.Forgot c o k)) = None
+has_of (cues.Meta (says.Swapped c o k s)) = None
+has_of (cues.Meta (says.Changed c o k s)) = None
 has_of (cues.Cloud reply) = None
 has_of cues.Tick = None
 
@@ -44,6 +48,8 @@ is_update_answer (cues.Meta (says.Has c o k r)) = false
 is_update_answer (cues.Meta (says.Fired c o k s)) = false
 is_update_answer (cues.Meta (says.OldList c o k ss)) = false
 is_update_answer (cues.Meta (says.Forgot c o k)) = false
+is_update_answer (cues.Meta (says.Swapped c o k s)) = false
+is_update_answer (cues.Meta (says.Changed c o k s)) = false
 is_update_answer (cues.Cloud reply) = false
 is_update_answer cues.Tick = false
 
@@ -55,6 +61,8 @@ is_fired stamp (cues.Meta (says.Applied c o k s)) = false
 is_fired stamp (cues.Meta (says.Kept c o k s)) = false
 is_fired stamp (cues.Meta (says.OldList c o k ss)) = false
 is_fired stamp (cues.Meta (says.Forgot c o k)) = false
+is_fired stamp (cues.Meta (says.Swapped c o k s)) = false
+is_fired stamp (cues.Meta (says.Changed c o k s)) = false
 is_fired stamp (cues.Cloud reply) = false
 is_fired stamp cues.Tick = false
 
@@ -66,6 +74,8 @@ olds_of (cues.Meta (says.Applied c o k s)) = None
 olds_of (cues.Meta (says.Kept c o k s)) = None
 olds_of (cues.Meta (says.Fired c o k s)) = None
 olds_of (cues.Meta (says.Forgot c o k)) = None
+olds_of (cues.Meta (says.Swapped c o k s)) = None
+olds_of (cues.Meta (says.Changed c o k s)) = None
 olds_of (cues.Cloud reply) = None
 olds_of cues.Tick = None
 
@@ -77,6 +87,8 @@ is_forgot (cues.Meta (says.Has c o k r)) = false
 is_forgot (cues.Meta (says.Applied c o k s)) = false
 is_forgot (cues.Meta (says.Kept c o k s)) = false
 is_forgot (cues.Meta (says.Fired c o k s)) = false
+is_forgot (cues.Meta (says.Swapped c o k s)) = false
+is_forgot (cues.Meta (says.Changed c o k s)) = false
 is_forgot (cues.Cloud reply) = false
 is_forgot cues.Tick = false
 

@@ -1,5 +1,6 @@
 pub mod Inputs
 pub mod Write
+pub mod Swap
 pub mod Read
 pub mod Collect
 pub mod Operations
@@ -8,3 +9,4 @@ pub mod Turns
 pub mod Session
 pub mod Cloud
 pub mod Rows
+pub mod EdgeRows

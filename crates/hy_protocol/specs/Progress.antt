@@ -75,3 +75,4 @@ progress_of f k client op (asked.Put key value) inputs = write_progress (write_p
 progress_of f k client op (asked.Delete key) inputs = write_progress (write_plan f k client op key None) inputs
 progress_of f k client op (asked.Get key) inputs = read_progress inputs
 progress_of f k client op (asked.Collect key) inputs = collect_progress (collect_plan f k client op key) inputs
+progress_of f k client op (asked.Swap key expected value) inputs = write_progress (write_plan f k client op key (Some value)) inputs

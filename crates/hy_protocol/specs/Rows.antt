@@ -1,8 +1,7 @@
 -- Worked inputs: what each operation sends and replies at them, and what a cloud answers, computed from the definitions.
-use Rattle.std.specs.Prelude.{◌≡◌, ℕ, true, false, List, [], ◌∷◌, Option, Some, None}
+use Rattle.std.specs.Prelude.{◌≡◌, ℕ, true, false, List, [], ◌∷◌, Some, None}
 use Rattle.hy_record.specs.declared.message.MetaAsk.TheVariants as asks
 use Rattle.hy_record.specs.declared.message.MetaSay.TheVariants as says
-use Rattle.hy_record.specs.declared.action.Reply.{Reply}
 use Rattle.hy_record.specs.declared.action.Reply.TheVariants as told
 use Rattle.hy_record.specs.Stamp.{Timestamp}
 use Rattle.hy_record.specs.Record.{RecordValue}
@@ -20,6 +19,7 @@ use Rattle.hy_protocol.specs.declared.plan.PutPlan.{PutPlan}
 use Rattle.hy_protocol.specs.declared.plan.GetPlan.{GetPlan}
 use Rattle.hy_protocol.specs.declared.plan.CollectPlan.{CollectPlan}
 use Rattle.hy_protocol.specs.Write.{value_record, write_sends, write_reply}
+use Rattle.hy_protocol.specs.Swap.{swap_sends, swap_reply}
 use Rattle.hy_protocol.specs.Read.{read_sends, read_reply, refresh_count}
 use Rattle.hy_protocol.specs.Collect.{collect_sends, collect_reply}
 use Rattle.hy_protocol.specs.Cloud.{cloud_answer}
@@ -70,6 +70,44 @@ pub record PutRow : Type 0 where
       write_reply put (cues.Meta (says.Applied 2 1 a (stamp 1 2)) ∷ stored 2 ∷ stored 0 ∷ told_none ∷ [])
       ≡ Some (told.Done (stamp 1 2))
   pub unasked : write_reply put (cues.Meta (says.Applied 2 1 a (stamp 1 2)) ∷ stored 0 ∷ told_none ∷ []) ≡ None
+
+-- client 2 swaps under the key `_a` where there is no record: into one cloud, of which a quorum is that
+abbrev pub cell : List ℕ
+cell = 95 ∷ 97 ∷ []
+
+abbrev pub swap : PutPlan
+swap = record { client = 2; op = 1; key = cell; value = Some (1 ∷ []); f = 0; k = 1 }
+
+abbrev pub told_none_there : Cue
+told_none_there = cues.Meta (says.Has 2 1 cell None)
+
+abbrev pub told_other : Cue
+told_other = cues.Meta (says.Has 2 1 cell (Some (value_record (stamp 1 1) (2 ∷ []) 0 1 (0 ∷ []))))
+
+abbrev pub cell_stored : Cue
+cell_stored = cues.Cloud (record { client = 2; op = 1; cloud = 0; key = cell; stamp = stamp 1 2; say = Stored true })
+
+-- a swap sends what a put does, and in place of the update one that asks for the expected timestamp; where the record is another it replies at once
+pub record SwapRow : Type 0 where
+  pub start : swap_sends swap (stamp 0 0) [] ≡ outs.Meta (asks.Read 2 1 cell) ∷ []
+  pub fragment :
+      swap_sends swap (stamp 0 0) (told_none_there ∷ [])
+      ≡ outs.Cloud (record { client = 2; op = 1; cloud = 0; wish = record { key = cell; stamp = stamp 1 2; act = acts.Put (fragment_of (1 ∷ []) 1 0) } }) ∷ []
+  pub asks_expecting :
+      swap_sends swap (stamp 0 0) (cell_stored ∷ told_none_there ∷ [])
+      ≡ outs.Meta (asks.Swap 2 1 cell (stamp 0 0) (value_record (stamp 1 2) (1 ∷ []) 0 1 (0 ∷ []))) ∷ []
+  pub swapped :
+      swap_reply swap (stamp 0 0) (cues.Meta (says.Swapped 2 1 cell (stamp 1 2)) ∷ cell_stored ∷ told_none_there ∷ [])
+      ≡ Some (told.Swapped (stamp 1 2))
+  pub changed_later :
+      swap_reply swap (stamp 0 0) (cues.Meta (says.Changed 2 1 cell (stamp 1 1)) ∷ cell_stored ∷ told_none_there ∷ [])
+      ≡ Some (told.Changed (stamp 1 1))
+  pub no_update_answer : swap_reply swap (stamp 0 0) (cues.Meta (says.Applied 2 1 cell (stamp 1 2)) ∷ cell_stored ∷ told_none_there ∷ []) ≡ None
+  pub unasked : swap_reply swap (stamp 0 0) (cues.Meta (says.Swapped 2 1 cell (stamp 1 2)) ∷ told_none_there ∷ []) ≡ None
+  pub changed_at_once : swap_reply swap (stamp 0 0) (told_other ∷ []) ≡ Some (told.Changed (stamp 1 1))
+  pub silent : swap_sends swap (stamp 0 0) (told_other ∷ []) ≡ []
+  pub stays_silent : swap_sends swap (stamp 0 0) (cues.Tick ∷ told_other ∷ []) ≡ []
+  pub stays_changed : swap_reply swap (stamp 0 0) (cues.Meta (says.Swapped 2 1 cell (stamp 1 2)) ∷ told_other ∷ []) ≡ Some (told.Changed (stamp 1 1))
 
 -- client 1 gets the value of a record that lists clouds 0 and 1
 abbrev pub get : GetPlan

@@ -1,5 +1,6 @@
 -- What an operation does at an input, over all inputs that it was handed: those that are not for it change nothing, and nothing changes after its reply.
 use Rattle.std.specs.Prelude.{ℕ, List, [], ◌∷◌, Option, None, is_some, if◌then◌else◌}
+use Rattle.hy_record.specs.Stamp.{Timestamp}
 use Rattle.hy_record.specs.declared.action.Reply.{Reply}
 use Rattle.hy_record.specs.declared.turn.Cue.{Cue}
 use Rattle.hy_record.specs.declared.turn.Out.{Out}
@@ -9,6 +10,7 @@ use Rattle.hy_protocol.specs.declared.plan.GetPlan.{GetPlan}
 use Rattle.hy_protocol.specs.declared.plan.CollectPlan.{CollectPlan}
 use Rattle.hy_protocol.specs.Inputs.{addresses, inputs_for}
 use Rattle.hy_protocol.specs.Write.{write_sends, write_reply}
+use Rattle.hy_protocol.specs.Swap.{swap_sends, swap_reply}
 use Rattle.hy_protocol.specs.Read.{read_sends, read_reply, refresh_count}
 use Rattle.hy_protocol.specs.Collect.{collect_sends, collect_reply}
 use Rattle.hy_protocol.specs.Progress.{Progress, write_progress, read_progress, collect_progress}
@@ -35,6 +37,9 @@ turn_of sends reply client op key (cue ∷ before) =
 unfoldable pub put_turn : PutPlan → List Cue → Turn
 put_turn plan inputs = turn_of (write_sends plan) (write_reply plan) plan.client plan.op plan.key inputs
 
+unfoldable pub swap_turn : PutPlan → Timestamp → List Cue → Turn
+swap_turn plan expected inputs = turn_of (swap_sends plan expected) (swap_reply plan expected) plan.client plan.op plan.key inputs
+
 unfoldable pub get_turn : GetPlan → List Cue → Turn
 get_turn plan inputs = turn_of (read_sends plan) read_reply plan.client plan.op plan.key inputs
 
@@ -49,6 +54,9 @@ settled_progress reply progress (cue ∷ before) =
 
 unfoldable pub put_progress : PutPlan → List Cue → Progress
 put_progress plan inputs = settled_progress (write_reply plan) (write_progress plan) (inputs_for plan.client plan.op plan.key inputs)
+
+unfoldable pub swap_progress : PutPlan → Timestamp → List Cue → Progress
+swap_progress plan expected inputs = settled_progress (swap_reply plan expected) (write_progress plan) (inputs_for plan.client plan.op plan.key inputs)
 
 unfoldable pub get_progress : GetPlan → List Cue → Progress
 get_progress plan inputs = settled_progress read_reply read_progress (inputs_for plan.client plan.op plan.key inputs)

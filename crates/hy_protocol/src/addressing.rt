@@ -41,6 +41,18 @@ fn says_to(client: u32, op: u32, key: &Key, say: &MetaSay) -> bool
             ..
         } => (*client, *op, key),
         MetaSay::Forgot { client, op, key } => (*client, *op, key),
+        MetaSay::Swapped {
+            client,
+            op,
+            key,
+            ..
+        } => (*client, *op, key),
+        MetaSay::Changed {
+            client,
+            op,
+            key,
+            ..
+        } => (*client, *op, key),
     };
     c == client && o == op && k.is_same(key)
 }
