@@ -4,7 +4,9 @@ use Rattle.std.specs.Prelude.{◌⊎◌}
 use Rattle.std.specs.List.{AllByRecursion}
 use Rattle.std.specs.Str.{bytes_eq}
 use Rattle.std.proofs.lemmas.Option.{none-some}
-use Rattle.hy_record.specs.declared.message.MetaAsk.TheVariants as asks
+use Rattle.hy_meta.specs.Service.{Attempt}
+use Rattle.hy_meta.specs.Run.{IsTried}
+use Rattle.hy_theorems.specs.Writing.{change_value}
 use Rattle.hy_record.specs.declared.message.MetaSay.{MetaSay}
 use Rattle.hy_record.specs.Stamp.{Timestamp}
 use Rattle.hy_base.specs.Shape.{IsShape}
@@ -26,8 +28,8 @@ use Rattle.hy_trace.specs.Messages.{Message, Ask, Say, Request, Answer, message_
 use Rattle.hy_protocol.specs.Operations.{write_plan, sends_of}
 use Rattle.hy_trace.specs.Trace.{Fits, IsTrace}
 use Rattle.hy_trace.proofs.Growth.{all-among}
-use Rattle.hy_theorems.proofs.Meaning.{MeansWish, IsAsked, IsFetched, IsUpdating, IsPutting, WasOld, old-keeps, putting-keeps, asked-sent}
-use Rattle.hy_theorems.proofs.Invariant.{trace-holds}
+use Rattle.hy_theorems.proofs.Meaning.{MeansWish, IsFetched, IsUpdating, IsPutting, WasOld, old-keeps, putting-keeps}
+use Rattle.hy_theorems.proofs.Invariant.{trace-holds, tried-means}
 use Rattle.hy_theorems.proofs.Listing.{IsIn}
 use Rattle.hy_theorems.proofs.Told.{IsRecordOf, update-is}
 use Rattle.hy_theorems.proofs.Durable.{IsKept, held-put}
@@ -42,20 +44,23 @@ no-clouds : clouds_of 0 ≡ []
 unfolding clouds_of
 no-clouds = refl
 
--- an honest cloud of the list of an update that was served holds something under its name, or that was superseded
-pub listed-kept : (p : Params) (t : List Deed) → IsTrace p t → IsShape p.f p.k → (key : List ℕ) (b n : ℕ) (r : RecordValue) → IsAsked (served t) (asks.Update b n key r) → (cloud : ℕ) → IsIn (clouds_of r.clouds) cloud → (p.is_liar cloud ≡ true) ⊎ IsKept t cloud key r.stamp
-listed-kept p t trace shape key b n r asked cloud listed =
-    let u : IsUpdating p b n key r t = (trace-holds p t trace).said (Ask (asks.Update b n key r)) (asked-sent p t (asks.Update b n key r) trace asked) in
-    by_value u u.value refl
+-- an honest cloud of the list of an attempt that was served holds something under its name, or that was superseded
+pub listed-kept : (p : Params) (t : List Deed) → IsTrace p t → IsShape p.f p.k → (a : Attempt) → IsTried (served t) a → (cloud : ℕ) → IsIn (clouds_of a.rec.clouds) cloud → (p.is_liar cloud ≡ true) ⊎ IsKept t cloud a.key a.rec.stamp
+listed-kept p t trace shape a tried cloud listed =
+    let u : IsUpdating p a.client a.op a.key a.expected a.rec t = tried-means p t a trace (trace-holds p t trace) tried in
+    by_value u (change_value u.change) refl
   where
-    by_value : (u : IsUpdating p b n key r t) (value : Option (List ℕ)) → u.value ≡ value → (p.is_liar cloud ≡ true) ⊎ IsKept t cloud key r.stamp
+    by_value : (u : IsUpdating p a.client a.op a.key a.expected a.rec t) (value : Option (List ℕ)) → change_value u.change ≡ value → (p.is_liar cloud ≡ true) ⊎ IsKept t cloud a.key a.rec.stamp
     by_value u None value_is =
-        let tomb : r ≡ tombstone r.stamp = subst (λ (v : Option (List ℕ)). IsRecordOf p v r) value_is (update-is p b n key u.value (inputs_of b n t) r u.update) in
+        let r = a.rec in
+        let tomb : r ≡ tombstone r.stamp = subst (λ (v : Option (List ℕ)). IsRecordOf p v r) value_is (update-is p a.client a.op a.key (change_value u.change) (inputs_of a.client a.op t) r u.update) in
         absurd (subst (λ (xs : List ℕ). IsIn xs cloud) (ap (λ (x : RecordValue). clouds_of x.clouds) tomb ∙ no-clouds) listed)
     by_value u (Some v) value_is =
-        let q : IsQuorumRecord p v (inputs_of b n t) r = update-quorum p b n key v (inputs_of b n t) r (ap (λ (x : Option (List ℕ)). update_of (write_plan p.f p.k b n key x) (inputs_of b n t)) (sym value_is) ∙ u.update) in
-        let a : IsAcknowledged r.stamp (inputs_of b n t) cloud = all-element (IsAcknowledged r.stamp (inputs_of b n t)) q.list cloud q.acknowledged (subst (λ (xs : List ℕ). IsIn xs cloud) (listed-clouds p v (inputs_of b n t) r shape q) listed) in
-        acknowledged-kept p t key r trace b n v u value_is cloud a
+        let r = a.rec in
+        let inputs = inputs_of a.client a.op t in
+        let q : IsQuorumRecord p v inputs r = update-quorum p a.client a.op a.key v inputs r (ap (λ (x : Option (List ℕ)). update_of (write_plan p.f p.k a.client a.op a.key x) inputs) (sym value_is) ∙ u.update) in
+        let acknowledged : IsAcknowledged r.stamp inputs cloud = all-element (IsAcknowledged r.stamp inputs) q.list cloud q.acknowledged (subst (λ (xs : List ℕ). IsIn xs cloud) (listed-clouds p v inputs r shape q) listed) in
+        acknowledged-kept p t a.key a.expected r trace a.client a.op u cloud acknowledged
 
 -- an acknowledgement or a conflict answers a put; bytes are those of a put; and what is missing or deleted was superseded
 abbrev pub MeansSaid : Params → List Deed → ℕ → ℕ → ℕ → List ℕ → Timestamp → CloudSay → Type 0
@@ -90,9 +95,9 @@ answer-keeps p d t (Answer reply) fits means = said-keeps p d t reply.client rep
 module _ (p : Params) (t : List Deed) (trace : IsTrace p t) (shape : IsShape p.f p.k) (c o cloud : ℕ) (honest : p.is_liar cloud ≡ false) (k : List ℕ) (s : Timestamp) where
   missing-old : (f : IsFetched t cloud k s) → bytes_held (granted cloud t) k s ≡ None → WasOld (served t) k s
   missing-old f none =
-      elim (listed-kept p t trace shape k f.client f.op f.rec f.asked cloud f.listed) [
+      elim (listed-kept p t trace shape f.attempt f.tried cloud f.listed) [
         | inl liar ↦ absurd (true-false (sym liar ∙ honest))
-        | inr kept ↦ by_kept (subst (λ (x : Timestamp). IsKept t cloud k x) f.stamp_is kept)
+        | inr kept ↦ by_kept (subst (λ (x : Timestamp). IsKept t cloud k x) f.stamp_is (subst (λ (x : List ℕ). IsKept t cloud x f.attempt.rec.stamp) f.key_is kept))
       ]
     where
       true-false : true ≡ false → ⊥

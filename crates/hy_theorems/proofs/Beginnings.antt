@@ -34,7 +34,7 @@ unfolding IsTrace begun_of
 begun-are p [] trace = (tt, tt)
 begun-are p (Began c o a ∷ t) trace =
     let was = begun-are p t trace.1 in
-    ((began-here c o a t trace.0.fresh, begun-keep (Began c o a) t (begun_of t) was.0), (others-fresh c o t (begun_of t) trace.0.fresh was.0, was.1))
+    ((began-here c o a t trace.0.0.fresh, begun-keep (Began c o a) t (begun_of t) was.0), (others-fresh c o t (begun_of t) trace.0.0.fresh was.0, was.1))
 begun-are p (Joined ∷ t) trace = let was = begun-are p t trace.1 in (begun-keep Joined t (begun_of t) was.0, was.1)
 begun-are p (Handed c o w cue ∷ t) trace = let was = begun-are p t trace.1 in (begun-keep (Handed c o w cue) t (begun_of t) was.0, was.1)
 begun-are p (Served ask ∷ t) trace = let was = begun-are p t trace.1 in (begun-keep (Served ask) t (begun_of t) was.0, was.1)

@@ -18,20 +18,30 @@ use Rattle.hy_order.specs.History.{key_of_action, is_end_of, is_reply_of, IsNumb
 use Rattle.hy_order.specs.Linearization.{is_of_key, is_finished, is_finished_reply, is_write, may_be_listed, operation_at, listed, IsMember, IsLinearization, RespectsRealTime, ReadsRegister}
 use Rattle.hy_protocol.specs.Write.{write_reply}
 use Rattle.hy_trace.specs.Deeds.{Params, Deed, Joined, Began, Handed, Served, Granted, Stopped, Nothing, Start, inputs_of, start_of}
-use Rattle.hy_protocol.specs.Operations.{key_of, write_plan, replied}
+use Rattle.hy_protocol.specs.Operations.{key_of, suits, write_plan, replied}
 use Rattle.hy_trace.specs.Trace.{IsTrace}
-use Rattle.hy_theorems.specs.Writing.{write_action}
-use Rattle.hy_trace.specs.Points.{write_point}
-use Rattle.hy_trace.specs.Order.{Mark, is_behind, sorted_marks, is_done, is_done_return, write_mark, reply_mark, read_mark, mark_by, mark_of, marks_of, op_of, number_of, linearization_of}
+use Rattle.hy_theorems.specs.Writing.{Change, Puts, Deletes, Swaps, change_value, change_expected, change_action}
+use Rattle.hy_theorems.proofs.Writes.{update-own, SwapReplies, swap-replied}
+use Rattle.hy_theorems.proofs.Invariant.{start-suits}
+use Rattle.hy_record.specs.Stamp.{Timestamp}
+use Rattle.hy_record.specs.declared.turn.Cue.{Cue}
+use Rattle.hy_protocol.specs.declared.plan.PutPlan.{PutPlan}
+use Rattle.hy_protocol.specs.Swap.{swap_reply}
+use Rattle.hy_order.specs.Linearization.{no_register}
+use Rattle.hy_order.specs.History.{is_own_key}
+use Rattle.std.proofs.lemmas.Option.{none-some}
+use Rattle.std.specs.Prelude.{◌⊎◌}
+use Rattle.hy_trace.specs.Points.{write_point, changed_point}
+use Rattle.hy_trace.specs.Order.{Mark, is_behind, sorted_marks, is_done, is_done_return, write_mark, reply_mark, read_mark, changed_reply_mark, changed_mark, mark_by, mark_of, marks_of, op_of, number_of, linearization_of}
 use Rattle.hy_protocol.specs.Progress.{progress_of}
 use Rattle.hy_trace.specs.History.{Return, return_of, Begun, begun_of, end_of, operation_of, history_of}
 use Rattle.hy_trace.proofs.Growth.{start-same}
 use Rattle.hy_theorems.proofs.RealTime.{return-reply}
-use Rattle.hy_theorems.proofs.Apart.{replied-write}
+use Rattle.hy_theorems.proofs.Apart.{change_reply, replied-write}
 use Rattle.hy_theorems.proofs.Values.{IsCollisionFree}
 use Rattle.hy_theorems.proofs.Told.{ArePutBytes}
 use Rattle.hy_theorems.proofs.Beginnings.{begun-are, IsAmongBegun, begun-in}
-use Rattle.hy_theorems.proofs.Marks.{IsMarkOf, IsWriteMark, mark-is, write-done}
+use Rattle.hy_theorems.proofs.Marks.{IsMarkOf, IsWriteMark, IsReadMark, IsGetMark, IsChangedMark, mark-is, mark-replied}
 use Rattle.hy_theorems.proofs.Linear.{sorted-are, real-time, reads-register}
 use Rattle.hy_theorems.proofs.Placed.{orders-same}
 use Rattle.hy_theorems.proofs.Replies.{is_read_reply, write-replies, reply-fits, phase-fits}
@@ -92,10 +102,19 @@ key-same (asked.Put key v) = refl
 key-same (asked.Get key) = refl
 key-same (asked.Delete key) = refl
 key-same (asked.Collect key) = refl
+key-same (asked.Swap key e v) = refl
 
-write-is : (key : List ℕ) (value : Option (List ℕ)) → is_write (write_action key value) ≡ true
-write-is key None = refl
-write-is key (Some v) = refl
+write-is : (key : List ℕ) (change : Change) → is_write (change_action key change) ≡ true
+write-is key (Puts v) = refl
+write-is key Deletes = refl
+write-is key (Swaps e v) = refl
+
+own-key : (a : Action) → suits a ≡ true → is_own_key a ≡ true
+own-key (asked.Put key v) is = is
+own-key (asked.Delete key) is = is
+own-key (asked.Swap key e v) is = is
+own-key (asked.Get key) is = refl
+own-key (asked.Collect key) is = refl
 
 read-finished : (reply : Reply) → is_read_reply reply ≡ true → is_finished_reply reply ≡ true
 read-finished (told.Value v s) is = refl
@@ -103,6 +122,8 @@ read-finished (told.Absent s) is = refl
 read-finished (told.Done s) is = refl
 read-finished (told.Exhausted s) is = is
 read-finished (told.Collected n) is = is
+read-finished (told.Swapped s) is = refl
+read-finished (told.Changed s) is = refl
 
 -- what an operation replied, by its history
 history-replies : (p : Params) (t : List Deed) (b : Begun) (r : Return) → IsTrace p t → start_of b.client b.op t ≡ Some b.start → return_of p b.client b.op t ≡ Some r → replied p.f p.k b.client b.op b.start.action (inputs_of b.client b.op t) ≡ Some r.reply
@@ -115,6 +136,7 @@ history-replies p t b r trace began returned =
 pub is-history : (p : Params) (t : List Deed) → IsTrace p t → IsHistory (history_of p t)
 is-history p t trace = record {
   numbered = history-numbered p t;
+  keys = history-all (λ op. IsTrue (is_own_key op.action)) p t trace (λ b began. own-key b.start.action (start-suits p b.client b.op t b.start trace began));
   ends = history-all (λ op. IsTrue (is_end_of op.action op.end)) p t trace (λ b began. by_return b began (return_of p b.client b.op t) refl);
 }
   where
@@ -137,12 +159,16 @@ module _ (p : Params) (t : List Deed) (trace : IsTrace p t) (key : List ℕ) whe
   of-key b is = (bytes_eq-Decides (key_of_action b.start.action) key).1 (key-same b.start.action ∙ is)
 
   write-listed : (b : Begun) (m : Mark) → IsOf b m → IsWriteMark p t trace key b m → (o : Option Return) → return_of p b.client b.op t ≡ o → IsTrue (may_be_listed b.start.action (end_of o (progress_of p.f p.k b.client b.op b.start.action (inputs_of b.client b.op t))))
-  write-listed b m of w None is = ap is_write w.action_is ∙ write-is key w.value
+  write-listed b m of w None is = ap is_write w.action_is ∙ write-is key w.change
   write-listed b m of w (Some r) is =
-      let inputs = inputs_of b.client b.op t in
-      let plan = write_plan p.f p.k b.client b.op key w.value in
-      let replies : write_reply plan inputs ≡ Some r.reply = sym (replied-write p b.client b.op key w.value inputs) ∙ (ap (λ (a : Action). replied p.f p.k b.client b.op a inputs) (sym w.action_is) ∙ history-replies p t b r trace of.began is) in
-      ap is_finished_reply (sym (write-done plan inputs m.stamp r.reply w.own replies))
+      elim (mark-replied p t trace key b m r of w is) [
+        | inl done ↦ ap is_finished_reply (sym done)
+        | inr swapped ↦ ap is_finished_reply (sym swapped)
+      ]
+
+  kind-finished : (b : Begun) (m : Mark) (read : IsReadMark p t trace key b m) → IsGetMark p t trace key b m read.ret ⊎ IsChangedMark p t trace key b m read.ret → is_finished_reply read.ret.reply ≡ true
+  kind-finished b m read (inl get) = read-finished read.ret.reply get.finished
+  kind-finished b m read (inr changed) = ap is_finished_reply changed.reply_is
 
   member : (m : Mark) → Is m → IsMember (history_of p t) key m.op.number
   member m mark =
@@ -151,7 +177,7 @@ module _ (p : Params) (t : List Deed) (trace : IsTrace p t) (key : List ℕ) whe
       let listed_ : IsTrue (may_be_listed b.start.action (end_of (return_of p b.client b.op t) (progress_of p.f p.k b.client b.op b.start.action (inputs_of b.client b.op t)))) =
       elim of.sort [
         | inl write ↦ write-listed b m of write (return_of p b.client b.op t) refl
-        | inr read ↦ ap (λ (o : Option Return). may_be_listed b.start.action (end_of o (progress_of p.f p.k b.client b.op b.start.action (inputs_of b.client b.op t)))) read.returned ∙ read-finished read.ret.reply read.finished
+        | inr read ↦ ap (λ (o : Option Return). may_be_listed b.start.action (end_of o (progress_of p.f p.k b.client b.op b.start.action (inputs_of b.client b.op t)))) read.returned ∙ kind-finished b m read read.kind
       ] in
       subst (λ (x : Operation). IsMember (history_of p t) key x.number) (sym of.op_is) (operation_of p t b, history-finds p t b of.began, of-key b of.key_is, listed_)
 
@@ -204,18 +230,66 @@ module _ (p : Params) (t : List Deed) (trace : IsTrace p t) (key : List ℕ) whe
   abbrev pub HasMark : Begun → Type 0
   HasMark b = (m : Mark) × (mark_of p t key b ≡ Some m)
 
-  write-has : (b : Begun) (value : Option (List ℕ)) (r : Return) → b.start.action ≡ write_action key value → return_of p b.client b.op t ≡ Some r → start_of b.client b.op t ≡ Some b.start → IsTrue (is_finished_reply r.reply) → (m : Mark) × (write_mark p t b key value ≡ Some m)
-  write-has b value r action returned began finished =
+  write-has : (b : Begun) (change : Change) (r : Return) → b.start.action ≡ change_action key change → change_expected change ≡ None → return_of p b.client b.op t ≡ Some r → start_of b.client b.op t ≡ Some b.start → IsTrue (is_finished_reply r.reply) → (m : Mark) × (write_mark p t b key (change_value change) ≡ Some m)
+  write-has b change r action free returned began finished =
       let inputs = inputs_of b.client b.op t in
-      let plan = write_plan p.f p.k b.client b.op key value in
-      let replies : write_reply plan inputs ≡ Some r.reply = sym (replied-write p b.client b.op key value inputs) ∙ (ap (λ (a : Action). replied p.f p.k b.client b.op a inputs) (sym action) ∙ history-replies p t b r trace began returned) in
-      elim (write-replies plan inputs r.reply replies) [
+      let plan = write_plan p.f p.k b.client b.op key (change_value change) in
+      let replies : change_reply plan change inputs ≡ Some r.reply = sym (replied-write p b.client b.op key change inputs) ∙ (ap (λ (a : Action). replied p.f p.k b.client b.op a inputs) (sym action) ∙ history-replies p t b r trace began returned) in
+      elim (write-replies plan inputs r.reply (plain-reply plan change inputs r.reply free replies)) [
         | inr limit ↦ absurd (false≢true (ap is_finished_reply limit.1 ∙ finished))
         | inl done ↦
             let m : Mark = record { op = operation_of p t b; stamp = done.0; reads = 0; point = write_point b.client b.op t } in
             let tests : is_done_return (return_of p b.client b.op t) ≡ true = ap is_done_return returned ∙ ap is_done (sym done.2) in
             (m, rw (tests, done.1) refl)
       ]
+    where
+      plain-reply : (plan : PutPlan) (change : Change) (inputs : List Cue) (reply : Reply) → change_expected change ≡ None → change_reply plan change inputs ≡ Some reply → write_reply plan inputs ≡ Some reply
+      plain-reply plan (Puts v) inputs reply free is = is
+      plain-reply plan Deletes inputs reply free is = is
+      plain-reply plan (Swaps e v) inputs reply free is = absurd (none-some e (sym free))
+
+  -- a swap that finished has a mark
+  swap-has : (b : Begun) (e : Timestamp) (v : List ℕ) (r : Return) → b.start.action ≡ asked.Swap key e v → return_of p b.client b.op t ≡ Some r → start_of b.client b.op t ≡ Some b.start → IsTrue (is_finished_reply r.reply) → (m : Mark) × (mark_by p t b (asked.Swap key e v) ≡ Some m)
+  swap-has b e v r action returned began finished = by_reply r.reply refl finished
+    where
+      inputs : List Cue
+      inputs = inputs_of b.client b.op t
+
+      replies : swap_reply (write_plan p.f p.k b.client b.op key (Some v)) e inputs ≡ Some r.reply
+      replies = sym (replied-write p b.client b.op key (Swaps e v) inputs) ∙ (ap (λ (a : Action). replied p.f p.k b.client b.op a inputs) (sym action) ∙ history-replies p t b r trace began returned)
+
+      none_changed : (reply : Reply) → r.reply ≡ reply → is_done reply ≡ true → changed_mark p t b (return_of p b.client b.op t) ≡ None
+      none_changed (told.Swapped s) is done = ap (changed_mark p t b) returned ∙ ap (changed_reply_mark p t b) is
+      none_changed (told.Done s) is done = ap (changed_mark p t b) returned ∙ ap (changed_reply_mark p t b) is
+      none_changed (told.Changed s) is done = absurd (false≢true done)
+      none_changed (told.Exhausted s) is done = absurd (false≢true done)
+      none_changed (told.Collected n) is done = absurd (false≢true done)
+      none_changed (told.Value w s) is done = absurd (false≢true done)
+      none_changed (told.Absent s) is done = absurd (false≢true done)
+
+      by_answer : is_done r.reply ≡ true → SwapReplies (write_plan p.f p.k b.client b.op key (Some v)) e inputs r.reply → (m : Mark) × (mark_by p t b (asked.Swap key e v) ≡ Some m)
+      by_answer done (inl a) =
+          let own = update-own (write_plan p.f p.k b.client b.op key (Some v)) inputs a.rec a.update in
+          let tests : is_done_return (return_of p b.client b.op t) ≡ true = ap is_done_return returned ∙ done in
+          let none = none_changed r.reply refl done in
+          (record { op = operation_of p t b; stamp = a.rec.stamp; reads = 0; point = write_point b.client b.op t }, rw (none, tests, own) refl)
+      by_answer done (inr (inl changed)) = absurd (false≢true (ap is_done changed.reply_is ∙ done))
+      by_answer done (inr (inr ended)) = absurd (false≢true (ap is_done ended.reply_is ∙ done))
+
+      fits : is_reply_of (asked.Swap key e v) r.reply ≡ true
+      fits = reply-fits p b.client b.op (asked.Swap key e v) inputs r.reply (ap (λ (a : Action). replied p.f p.k b.client b.op a inputs) (sym action) ∙ history-replies p t b r trace began returned)
+
+      by_reply : (reply : Reply) → r.reply ≡ reply → IsTrue (is_finished_reply reply) → (m : Mark) × (mark_by p t b (asked.Swap key e v) ≡ Some m)
+      by_reply (told.Changed s) is finished_ =
+          let m : Mark = record { op = operation_of p t b; stamp = s; reads = 1; point = changed_point b.client b.op t } in
+          let changed : changed_mark p t b (return_of p b.client b.op t) ≡ Some m = ap (changed_mark p t b) returned ∙ ap (changed_reply_mark p t b) is in
+          (m, rw changed refl)
+      by_reply (told.Swapped s) is finished_ = by_answer (ap is_done is) (swap-replied (write_plan p.f p.k b.client b.op key (Some v)) e inputs r.reply replies)
+      by_reply (told.Done s) is finished_ = absurd (false≢true (sym (ap (is_reply_of (asked.Swap key e v)) is) ∙ fits))
+      by_reply (told.Exhausted s) is finished_ = absurd (false≢true finished_)
+      by_reply (told.Collected n) is finished_ = absurd (false≢true finished_)
+      by_reply (told.Value w s) is finished_ = absurd (false≢true (sym (ap (is_reply_of (asked.Swap key e v)) is) ∙ fits))
+      by_reply (told.Absent s) is finished_ = absurd (false≢true (sym (ap (is_reply_of (asked.Swap key e v)) is) ∙ fits))
 
   reply-has : (b : Begun) (reply : Reply) → is_reply_of (asked.Get key) reply ≡ true → (m : Mark) × (reply_mark p t b reply ≡ Some m)
   reply-has b (told.Value v s) is = (_, refl)
@@ -223,6 +297,8 @@ module _ (p : Params) (t : List Deed) (trace : IsTrace p t) (key : List ℕ) whe
   reply-has b (told.Done s) is = absurd (false≢true is)
   reply-has b (told.Exhausted s) is = absurd (false≢true is)
   reply-has b (told.Collected n) is = absurd (false≢true is)
+  reply-has b (told.Swapped s) is = absurd (false≢true is)
+  reply-has b (told.Changed s) is = absurd (false≢true is)
 
   collect-unfinished : (k : List ℕ) (reply : Reply) → is_reply_of (asked.Collect k) reply ≡ true → IsTrue (is_finished_reply reply) → ⊥
   collect-unfinished k (told.Collected n) is finished = false≢true finished
@@ -230,12 +306,16 @@ module _ (p : Params) (t : List Deed) (trace : IsTrace p t) (key : List ℕ) whe
   collect-unfinished k (told.Absent s) is finished = false≢true is
   collect-unfinished k (told.Done s) is finished = false≢true is
   collect-unfinished k (told.Exhausted s) is finished = false≢true is
+  collect-unfinished k (told.Swapped s) is finished = false≢true is
+  collect-unfinished k (told.Changed s) is finished = false≢true is
 
   by-action : (b : Begun) (a : Action) (r : Return) → b.start.action ≡ a → key_of a ≡ key → return_of p b.client b.op t ≡ Some r → start_of b.client b.op t ≡ Some b.start → IsTrue (is_finished_reply r.reply) → (m : Mark) × (mark_by p t b a ≡ Some m)
   by-action b (asked.Put k v) r action key_is returned began finished =
-      subst (λ (x : List ℕ). (m : Mark) × (mark_by p t b (asked.Put x v) ≡ Some m)) (sym key_is) (write-has b (Some v) r (action ∙ ap (λ (x : List ℕ). asked.Put x v) key_is) returned began finished)
+      subst (λ (x : List ℕ). (m : Mark) × (mark_by p t b (asked.Put x v) ≡ Some m)) (sym key_is) (write-has b (Puts v) r (action ∙ ap (λ (x : List ℕ). asked.Put x v) key_is) refl returned began finished)
   by-action b (asked.Delete k) r action key_is returned began finished =
-      subst (λ (x : List ℕ). (m : Mark) × (mark_by p t b (asked.Delete x) ≡ Some m)) (sym key_is) (write-has b None r (action ∙ ap asked.Delete key_is) returned began finished)
+      subst (λ (x : List ℕ). (m : Mark) × (mark_by p t b (asked.Delete x) ≡ Some m)) (sym key_is) (write-has b Deletes r (action ∙ ap asked.Delete key_is) refl returned began finished)
+  by-action b (asked.Swap k e v) r action key_is returned began finished =
+      subst (λ (x : List ℕ). (m : Mark) × (mark_by p t b (asked.Swap x e v) ≡ Some m)) (sym key_is) (swap-has b e v r (action ∙ ap (λ (x : List ℕ). asked.Swap x e v) key_is) returned began finished)
   by-action b (asked.Get k) r action key_is returned began finished =
       let has = reply-has b r.reply (reply-fits p b.client b.op (asked.Get key) (inputs_of b.client b.op t) r.reply (ap (λ (a : Action). replied p.f p.k b.client b.op a (inputs_of b.client b.op t)) (sym (action ∙ ap asked.Get key_is)) ∙ history-replies p t b r trace began returned)) in
       (has.0, ap (read_mark p t b) returned ∙ has.1)
@@ -272,7 +352,7 @@ module _ (p : Params) (t : List Deed) (trace : IsTrace p t) (key : List ℕ) whe
     members = members-are (sorted_marks is_behind marks) (sorted-are p t trace key);
     distinct = distinct-are;
     real_time = subst RespectsRealTime (sym listed-is) (real-time p t trace key);
-    reads = subst (ReadsRegister None) (sym listed-is) (reads-register p t trace key shape free bytes_only);
+    reads = subst (ReadsRegister no_register) (sym listed-is) (reads-register p t trace key shape free bytes_only);
   }
 
   pub is-linearization : IsShape p.f p.k → IsCollisionFree p t → ArePutBytes t → IsLinearization (history_of p t) key (linearization_of p t key)

@@ -1,5 +1,6 @@
 pub mod Writes
 pub mod Meaning
+pub mod Numbers
 pub mod Others
 pub mod Speaking
 pub mod Invariant
@@ -26,6 +27,8 @@ pub mod Starved
 pub mod TopAt
 pub mod Overwritten
 pub mod ReadPoints
+pub mod Verdicts
+pub mod Cells
 pub mod Placed
 pub mod Rereads
 pub mod Premises

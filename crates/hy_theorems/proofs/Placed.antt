@@ -4,37 +4,23 @@ use Rattle.std.specs.Prelude.{◌⊎◌, ◌&&◌, ◌||◌, ◌==◌, not, nat_
 use Rattle.std.specs.List.{AllByRecursion, filter_map, cons_option}
 use Rattle.std.proofs.lemmas.Bool.{both_ways}
 use Rattle.std.proofs.lemmas.Bool.Decides.{nat_tests}
-use Rattle.hy_record.specs.declared.message.MetaSay.TheVariants as says
-use Rattle.hy_record.specs.declared.action.Action.{Action}
 use Rattle.hy_record.specs.Stamp.{Timestamp, stamp_lt}
 use Rattle.hy_record.proofs.Order.{stamp_le-lt, stamp_lt-same, stamp_lt-neither, stamp_eq-true, stamp_lt-other}
-use Rattle.hy_meta.specs.Service.{stamp_of_record}
 use Rattle.hy_meta.proofs.Rising.{cases_bool}
-use Rattle.hy_protocol.specs.Inputs.{addresses}
-use Rattle.hy_protocol.specs.Operations.{key_of, write_plan, replied}
-use Rattle.hy_protocol.specs.Write.{write_reply}
-use Rattle.hy_protocol.specs.Read.{version_of, answer_of, read_reply}
-use Rattle.hy_trace.specs.Deeds.{Params, Deed, Start, served, inputs_of, start_of}
-use Rattle.hy_trace.specs.Messages.{Say}
+use Rattle.hy_trace.specs.Deeds.{Params, Deed, start_of}
 use Rattle.hy_trace.specs.Trace.{IsTrace}
-use Rattle.hy_trace.specs.History.{Return, return_of, Begun, begun_of}
-use Rattle.hy_trace.specs.Points.{Point, Update, is_earlier, first_update, is_own, version_made, was_applied}
-use Rattle.hy_trace.specs.Order.{Mark, is_done, is_done_return, mark_of, marks_of, insert_mark, sorted_marks, is_later, is_behind}
-use Rattle.hy_trace.proofs.Growth.{Le, le-same, le-trans, start-same}
-use Rattle.hy_trace.proofs.Heard.{inputs-heard, said-answer}
-use Rattle.hy_theorems.proofs.Meaning.{IsUpdated}
-use Rattle.hy_theorems.proofs.Invariant.{trace-holds}
-use Rattle.hy_theorems.proofs.Apart.{replied-write}
-use Rattle.hy_theorems.proofs.RealTime.{return-reply, answer-stamp}
-use Rattle.hy_theorems.proofs.Replies.{done-heard}
+use Rattle.hy_trace.specs.History.{Begun, begun_of}
+use Rattle.hy_trace.specs.Points.{Point, is_earlier}
+use Rattle.hy_trace.specs.Order.{Mark, mark_of, marks_of, insert_mark, sorted_marks, is_later, is_behind}
+use Rattle.hy_trace.proofs.Growth.{Le, le-same, le-trans}
 use Rattle.hy_theorems.proofs.Ordering.{behind-before, parts-before, all-sorted, Differs}
-use Rattle.hy_theorems.proofs.Points.{answered-version}
 use Rattle.hy_theorems.proofs.Beginnings.{AreOthers, begun-are}
-use Rattle.hy_theorems.proofs.Marks.{behind-lt, behind-le, as-read, IsMarkOf, IsWriteMark, IsReadMark, mark-is, mark-writing, marks-differ}
+use Rattle.hy_theorems.proofs.Marks.{behind-lt, behind-le, IsMarkOf, mark-is, marks-differ}
 use Rattle.hy_theorems.proofs.Linear.{picked, all-pairs}
-use Rattle.hy_theorems.proofs.TopAt.{top_at, at-rises, asked-first}
-use Rattle.hy_theorems.proofs.Overwritten.{IsWrittenAt, written-at, applied-asked, first-true}
-use Rattle.hy_theorems.proofs.ReadPoints.{IsReadAt, version-at, reply-version}
+use Rattle.hy_theorems.proofs.TopAt.{top_at, at-rises}
+use Rattle.hy_theorems.proofs.Overwritten.{IsWrittenAt}
+use Rattle.hy_theorems.proofs.Cells.{written}
+use Rattle.hy_theorems.proofs.ReadPoints.{IsReadAt}
 
 -- a write or a read that stands at its point
 abbrev pub IsPlaced : List Deed → List ℕ → Mark → Type 0
@@ -162,50 +148,12 @@ sort-same (m ∷ ms) agree = rw (sort-same ms agree.1) (insert-same m (sorted_ma
 
 -- the listed operations of a key stand at their points
 module _ (p : Params) (t : List Deed) (trace : IsTrace p t) (key : List ℕ) where
-  written-first : (b : Begun) (m : Mark) → (of : IsMarkOf p t trace key b m) → (w : IsWriteMark p t trace key b m) → (u : Update) × (first_update (is_own b.client b.op) t ≡ Some u)
-  written-first b m of w = by_test (was_applied (served t) b.client b.op) refl (return_of p b.client b.op t) refl w.listed
-    where
-      by_done : (r : Return) → return_of p b.client b.op t ≡ Some r → is_done r.reply ≡ true → (u : Update) × (first_update (is_own b.client b.op) t ≡ Some u)
-      by_done r returned done =
-          let inputs = inputs_of b.client b.op t in
-          let h = return-reply p b.client b.op t r trace returned in
-          let same : h.start ≡ b.start = start-same b.client b.op t h.start b.start h.began of.began in
-          let replies : write_reply (write_plan p.f p.k b.client b.op key w.value) inputs ≡ Some r.reply = sym (replied-write p b.client b.op key w.value inputs) ∙ (ap (λ (a : Action). replied p.f p.k b.client b.op a inputs) (sym (ap (λ (s : Start). s.action) same ∙ w.action_is)) ∙ h.replies) in
-          let heard = done-heard (write_plan p.f p.k b.client b.op key w.value) inputs r.reply replies done in
-          let i = inputs-heard p b.client b.op heard.0 t trace heard.1 in
-          let own : addresses b.client b.op key heard.0 ≡ true = subst (λ (k : List ℕ). addresses b.client b.op k heard.0 ≡ true) (ap (λ (s : Start). key_of s.action) (start-same b.client b.op t i.start b.start i.began of.began) ∙ of.key_is) i.own in
-          let said = said-answer p t b.client b.op key heard.0 heard.2 own i.delivered in
-          let updated : IsUpdated t b.client b.op key = elim said.1 [ inl applied ↦ (trace-holds p t trace).said (Say (says.Applied b.client b.op key said.0)) applied | inr kept ↦ (trace-holds p t trace).said (Say (says.Kept b.client b.op key said.0)) kept ] in
-          asked-first b.client b.op key updated.0 t updated.1
-
-      by_test : (applied : Bool) → was_applied (served t) b.client b.op ≡ applied → (o : Option Return) → return_of p b.client b.op t ≡ o → (is_done_return o || applied) ≡ true → (u : Update) × (first_update (is_own b.client b.op) t ≡ Some u)
-      by_test true applied o returned listed = (let a = applied-asked (served t) b.client b.op applied in asked-first b.client b.op a.0 a.1 t a.2)
-      by_test false applied None returned listed = absurd (both_ways false refl listed)
-      by_test false applied (Some r) returned listed = by_done r returned (first-true (is_done r.reply) false refl listed)
-
-  pub written : (b : Begun) (m : Mark) → (of : IsMarkOf p t trace key b m) → (w : IsWriteMark p t trace key b m) → IsWrittenAt t key m.stamp m.point
-  written b m of w =
-      let u = written-first b m of w in
-      subst (λ (x : Point). IsWrittenAt t key m.stamp x) (sym w.point_is) (written-at p t trace b.client b.op key m.stamp (mark-writing p t trace key b m of w) u.0 u.1)
-
   pub placed : (b : Begun) (m : Mark) → IsMarkOf p t trace key b m → IsPlaced t key m
   placed b m of =
       elim of.sort [
-        | inl write ↦ inl (write.reads_is, written b m of write)
-        | inr read ↦ inr (read.reads_is, ap (λ (x : Point). x.is_just_before) read.point_is, by_read read)
+        | inl write ↦ inl (write.reads_is, written p t trace key b m of write)
+        | inr read ↦ inr (read.reads_is, read.side, read.at)
       ]
-    where
-      by_read : IsReadMark p t trace key b m → IsReadAt t key m.stamp m.point.step
-      by_read read =
-          let inputs = inputs_of b.client b.op t in
-          let h = return-reply p b.client b.op t read.ret trace read.returned in
-          let same : h.start ≡ b.start = start-same b.client b.op t h.start b.start h.began of.began in
-          let replies : read_reply inputs ≡ Some read.ret.reply = as-read b.client b.op key inputs p ∙ (ap (λ (a : Action). replied p.f p.k b.client b.op a inputs) (sym (ap (λ (s : Start). s.action) same ∙ read.action_is)) ∙ h.replies) in
-          let answer = reply-version p b.client b.op key read.ret.reply t trace (λ s began. ap (λ (x : Start). x.action) (start-same b.client b.op t s b.start began of.began) ∙ read.action_is) replies in
-          let v = answered-version (version_of inputs) read.ret.reply answer in
-          let stamp : stamp_of_record v.0.rec ≡ m.stamp = sym (answer-stamp v.0.rec v.0.since read.ret.reply (sym (ap answer_of v.1) ∙ answer)) ∙ read.stamp_is in
-          let at : IsReadAt t (key_of b.start.action) (stamp_of_record v.0.rec) (version_made b.client b.op t) = version-at p b.client b.op t trace b.start of.began v.0 v.1 in
-          subst (λ (n : ℕ). IsReadAt t key m.stamp n) (ap (λ (x : Point). x.step) (sym read.point_is)) (subst (λ (x : Timestamp). IsReadAt t key x (version_made b.client b.op t)) stamp (subst (λ (k : List ℕ). IsReadAt t k (stamp_of_record v.0.rec) (version_made b.client b.op t)) of.key_is at))
 
   agree : (ops : List Begun) → AllByRecursion (λ b. start_of b.client b.op t ≡ Some b.start) ops → AreOthers ops → AllAgree (filter_map (mark_of p t key) ops)
   agree [] began others = tt

@@ -70,7 +70,7 @@ sent-within p (d ∷ t) w m (inr was) = (let le = sent-within p t w m was in ome
 said-now : (p : Params) (d : Deed) (t : List Deed) (w : ℕ) (m : Message) → IsSentAt p (d ∷ t) w m → IsSent p (d ∷ t) m
 said-now p d t w m sent = at-sent p (d ∷ t) w m sent
 
-start-short : (c o : ℕ) (d : Deed) (t : List Deed) (s : Start) → start_of c o (d ∷ t) ≡ Some s → length s.before ≤ length t
+pub start-short : (c o : ℕ) (d : Deed) (t : List Deed) (s : Start) → start_of c o (d ∷ t) ≡ Some s → length s.before ≤ length t
 unfolding start_of
 start-short c o d t s began =
     elim (or-cases (start_of c o t) (start_at c o d t) s began) [
@@ -96,6 +96,8 @@ made-has p t w c o key (cues.Meta (says.Kept b n k s)) r tells own sent = absurd
 made-has p t w c o key (cues.Meta (says.Fired b n k s)) r tells own sent = absurd (none-some r tells)
 made-has p t w c o key (cues.Meta (says.OldList b n k ss)) r tells own sent = absurd (none-some r tells)
 made-has p t w c o key (cues.Meta (says.Forgot b n k)) r tells own sent = absurd (none-some r tells)
+made-has p t w c o key (cues.Meta (says.Swapped b n k s)) r tells own sent = absurd (none-some r tells)
+made-has p t w c o key (cues.Meta (says.Changed b n k s)) r tells own sent = absurd (none-some r tells)
 made-has p t w c o key (cues.Cloud reply) r tells own sent = absurd (none-some r tells)
 made-has p t w c o key cues.Tick r tells own sent = absurd (none-some r tells)
 

@@ -3,8 +3,7 @@ use Rattle.std.proofs.Common.{◌≡◌, ℕ, Bool, true, false, cond, List, [],
 use Rattle.std.specs.Prelude.{◌&&◌, ◌==◌}
 use Rattle.std.specs.List.{cons_option}
 use Rattle.std.proofs.lemmas.Option.{none-some, cond_some}
-use Rattle.hy_record.specs.declared.action.Action.{Action}
-use Rattle.hy_record.specs.declared.action.Action.TheVariants as asked
+use Rattle.hy_protocol.specs.Operations.{value_of}
 use Rattle.hy_record.specs.declared.turn.Cue.{Cue}
 use Rattle.hy_record.specs.declared.turn.Cue.TheVariants as cues
 use Rattle.hy_record.specs.declared.cloud.CloudReply.{CloudReply}
@@ -16,12 +15,6 @@ use Rattle.hy_trace.specs.Deeds.{Params, Deed, Joined, Began, Handed, Served, Gr
 use Rattle.hy_trace.specs.Hashed.{IsInput, IsHashed, IsCollisionFree}
 use Rattle.hy_trace.proofs.Growth.{or-cases}
 use Rattle.hy_theorems.proofs.Listing.{IsIn}
-
-abbrev pub value_of : Action → Option (List ℕ)
-value_of (asked.Put key value) = Some value
-value_of (asked.Get key) = None
-value_of (asked.Delete key) = None
-value_of (asked.Collect key) = None
 
 -- the values that puts were asked to store
 unfoldable pub put_values : List Deed → List (List ℕ)
@@ -72,26 +65,26 @@ more-values (Granted ask) t v is = is
 more-values (Stopped c) t v is = is
 more-values Nothing t v is = is
 
-value-now : (c o : ℕ) (d : Deed) (t : List Deed) (s : Start) (key v : List ℕ) → start_at c o d t ≡ Some s → s.action ≡ asked.Put key v → IsIn (put_values (d ∷ t)) v
+value-now : (c o : ℕ) (d : Deed) (t : List Deed) (s : Start) (v : List ℕ) → start_at c o d t ≡ Some s → value_of s.action ≡ Some v → IsIn (put_values (d ∷ t)) v
 unfolding put_values
-value-now c o (Began b n a) t s key v is action =
+value-now c o (Began b n a) t s v is action =
     (let same = (cond_some (b == c && n == o) (record { action = a; before = t }) s is).1 in
-    subst (λ (x : Option (List ℕ)). IsIn (cons_option x (put_values t)) v) (sym (ap (λ (x : Start). value_of x.action) same ∙ ap value_of action)) (inl refl))
-value-now c o Joined t s key v is action = absurd (none-some s is)
-value-now c o (Handed b n made cue) t s key v is action = absurd (none-some s is)
-value-now c o (Served ask) t s key v is action = absurd (none-some s is)
-value-now c o (Granted ask) t s key v is action = absurd (none-some s is)
-value-now c o (Stopped b) t s key v is action = absurd (none-some s is)
-value-now c o Nothing t s key v is action = absurd (none-some s is)
+    subst (λ (x : Option (List ℕ)). IsIn (cons_option x (put_values t)) v) (sym (ap (λ (x : Start). value_of x.action) same ∙ action)) (inl refl))
+value-now c o Joined t s v is action = absurd (none-some s is)
+value-now c o (Handed b n made cue) t s v is action = absurd (none-some s is)
+value-now c o (Served ask) t s v is action = absurd (none-some s is)
+value-now c o (Granted ask) t s v is action = absurd (none-some s is)
+value-now c o (Stopped b) t s v is action = absurd (none-some s is)
+value-now c o Nothing t s v is action = absurd (none-some s is)
 
 -- the value of a put is among them
-pub value-in : (c o : ℕ) (t : List Deed) (s : Start) (key v : List ℕ) → start_of c o t ≡ Some s → s.action ≡ asked.Put key v → IsIn (put_values t) v
+pub value-in : (c o : ℕ) (t : List Deed) (s : Start) (v : List ℕ) → start_of c o t ≡ Some s → value_of s.action ≡ Some v → IsIn (put_values t) v
 unfolding start_of
-value-in c o [] s key v is action = absurd (none-some s is)
-value-in c o (d ∷ t) s key v is action =
+value-in c o [] s v is action = absurd (none-some s is)
+value-in c o (d ∷ t) s v is action =
     elim (or-cases (start_of c o t) (start_at c o d t) s is) [
-      | inl was ↦ more-values d t v (value-in c o t s key v was action)
-      | inr now ↦ value-now c o d t s key v now.1 action
+      | inl was ↦ more-values d t v (value-in c o t s v was action)
+      | inr now ↦ value-now c o d t s v now.1 action
     ]
 
 -- the bytes that an operation was handed are among those
@@ -121,7 +114,7 @@ one-string p t v k f values bodies x y first second same = sym (is x first) ∙ 
 
     is : (x : List ℕ) → IsHashed p t x → v ≡ x
     is x (inl put) =
-        let value : v ≡ put.value = only put.value (subst (λ (vs : List (List ℕ)). IsIn vs put.value) values (value-in put.client put.op t put.start put.key put.value put.began put.action_is)) in
+        let value : v ≡ put.value = only put.value (subst (λ (vs : List (List ℕ)). IsIn vs put.value) values (value-in put.client put.op t put.start put.value put.began put.stores)) in
         let within = put.within in
         let whole = fragment_of-one put.value put.cloud (omega (arith, within, k, f)) in
         value ∙ (sym whole ∙ (ap (λ (n : ℕ). fragment_of put.value n put.cloud) (sym k) ∙ put.is))

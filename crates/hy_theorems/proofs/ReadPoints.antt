@@ -1,6 +1,7 @@
 -- The point of a read: the record had the timestamp that the read found.
-use Rattle.std.proofs.Common.{◌≡◌, ℕ, ◌+◌, ◌≤◌, List, [], ◌∷◌, length, map, Option, Some, None, refl, sym, ap, subst, ◌∙◌, inl, inr, arith}
+use Rattle.std.proofs.Common.{◌≡◌, ℕ, ◌+◌, ◌≤◌, Bool, true, false, cond, List, [], ◌∷◌, length, map, Option, Some, None, refl, sym, ap, subst, ◌∙◌, inl, inr, arith}
 use Rattle.std.specs.List.{AllByRecursion}
+use Rattle.std.specs.Prelude.{◌&&◌, ◌==◌}
 use Rattle.std.proofs.lemmas.Option.{none-some, same_Some}
 use Rattle.hy_record.specs.declared.message.MetaAsk.{MetaAsk}
 use Rattle.hy_record.specs.declared.message.MetaAsk.TheVariants as asks
@@ -14,9 +15,9 @@ use Rattle.hy_record.specs.declared.turn.Cue.{Cue}
 use Rattle.hy_record.specs.declared.turn.Out.{Out}
 use Rattle.hy_record.specs.declared.turn.Out.TheVariants as outs
 use Rattle.hy_meta.specs.declared.watcher.Watcher.{Watcher}
-use Rattle.hy_meta.specs.Service.{stamp_of_record, record_after, record_stamp}
+use Rattle.hy_meta.specs.Service.{Attempt, is_judged, applies, stamp_of_record, record_after, record_stamp}
 use Rattle.hy_meta.specs.Watches.{fired, fired_watches}
-use Rattle.hy_meta.specs.Meta.{service_answers}
+use Rattle.hy_meta.specs.Meta.{judged_answer, Judged, last_swap, repeated_answer, fired_by, service_answers}
 use Rattle.hy_meta.proofs.Rising.{cases_bool}
 use Rattle.hy_protocol.specs.Inputs.{has_of}
 use Rattle.hy_protocol.specs.Operations.{key_of, sends_of, replied}
@@ -53,6 +54,8 @@ TellsRecord d t (Say (says.Kept c o k s)) = Unit {0}
 TellsRecord d t (Say (says.Fired c o k s)) = Unit {0}
 TellsRecord d t (Say (says.OldList c o k ss)) = Unit {0}
 TellsRecord d t (Say (says.Forgot c o k)) = Unit {0}
+TellsRecord d t (Say (says.Swapped c o k s)) = Unit {0}
+TellsRecord d t (Say (says.Changed c o k s)) = Unit {0}
 TellsRecord d t (Ask ask) = Unit {0}
 TellsRecord d t (Request ask) = Unit {0}
 TellsRecord d t (Answer reply) = Unit {0}
@@ -64,6 +67,48 @@ out-tells d t (outs.Cloud ask) = tt
 fired-tells : (d : Deed) (t : List Deed) (ws : List Watcher) → AllByRecursion (TellsRecord d t) (map Say (map fired ws))
 fired-tells d t [] = tt
 fired-tells d t (w ∷ ws) = (tt, fired-tells d t ws)
+
+judged-tells : (d : Deed) (t : List Deed) (a : Attempt) → TellsRecord d t (Say (judged_answer (served t) a))
+unfolding judged_answer
+judged-tells d t a =
+    elim (cases_bool (applies (record_after (served t) a.key) a)) [
+      | inl applied ↦ rw applied tt
+      | inr refused ↦ rw refused tt
+    ]
+
+fired-by-tells : (d : Deed) (t : List Deed) (a : Attempt) → AllByRecursion (TellsRecord d t) (map Say (fired_by (served t) a))
+fired-by-tells d t a =
+    elim (cases_bool (applies (record_after (served t) a.key) a)) [
+      | inl applied ↦ rw applied (fired-tells d t (fired_watches (served t) a.key a.rec.stamp))
+      | inr refused ↦ rw refused tt
+    ]
+
+-- the last swap of a client that was judged told no record
+last-tells : (d : Deed) (t : List Deed) (requests : List MetaAsk) (client : ℕ) (j : Judged) → last_swap requests client ≡ Some j → TellsRecord d t (Say j.say)
+unfolding last_swap judged_answer
+last-tells d t [] client j is = absurd (none-some j is)
+last-tells d t (asks.Read c o k ∷ before) client j is = last-tells d t before client j is
+last-tells d t (asks.Update c o k r ∷ before) client j is = last-tells d t before client j is
+last-tells d t (asks.Watch c o k s ∷ before) client j is = last-tells d t before client j is
+last-tells d t (asks.Olds c o k ∷ before) client j is = last-tells d t before client j is
+last-tells d t (asks.Forget c o k ss ∷ before) client j is = last-tells d t before client j is
+last-tells d t (asks.Swap c o k e r ∷ before) client j is =
+    elim (cases_bool (c == client && is_judged before c o)) [
+      | inr other ↦ last-tells d t before client j (rw other at is)
+      | inl last ↦ subst (λ (x : Judged). TellsRecord d t (Say x.say)) (same_Some _ j (rw last at is)) (by_test (applies (record_after before k) (record { client = c; op = o; key = k; rec = r; expected = Some e })))
+    ]
+  where
+    by_test : (b : Bool) → TellsRecord d t (Say (cond b (says.Swapped c o k r.stamp) (says.Changed c o k (record_stamp before k))))
+    by_test true = tt
+    by_test false = tt
+
+repeat-tells : (d : Deed) (t : List Deed) (client op : ℕ) (last : Option Judged) → last_swap (served t) client ≡ last → AllByRecursion (TellsRecord d t) (map Say (repeated_answer last op))
+repeat-tells d t client op None is = tt
+repeat-tells d t client op (Some j) is =
+    elim (cases_bool (j.op == op)) [
+      | inl same ↦ rw same (last-tells d t (served t) client j is, tt)
+      | inr other ↦ rw other tt
+    ]
 
 service-tells : (t : List Deed) (ask : MetaAsk) → AllByRecursion (TellsRecord (Served ask) t) (map Say (service_answers (served t) ask))
 unfolding service_answers served record_stamp record_after
@@ -77,6 +122,12 @@ service-tells t (asks.Watch c o k s) =
     elim (cases_bool (stamp_lt s (record_stamp (served t) k))) [
       | inl due ↦ rw due (tt, tt)
       | inr waits ↦ rw waits tt
+    ]
+service-tells t (asks.Swap c o k e r) =
+    let a : Attempt = record { client = c; op = o; key = k; rec = r; expected = Some e } in
+    elim (cases_bool (is_judged (served t) c o)) [
+      | inl judged ↦ rw judged (judged-tells (Served (asks.Swap c o k e r)) t a, fired-by-tells (Served (asks.Swap c o k e r)) t a)
+      | inr repeated ↦ rw repeated (repeat-tells (Served (asks.Swap c o k e r)) t c o (last_swap (served t) c) refl)
     ]
 service-tells t (asks.Olds c o k) = (tt, tt)
 service-tells t (asks.Forget c o k ss) = (tt, tt)

@@ -86,6 +86,8 @@ stamp_of_reply (told.Value v s) = s
 stamp_of_reply (told.Absent s) = s
 stamp_of_reply (told.Exhausted s) = s
 stamp_of_reply (told.Collected n) = record { sn = 0; cid = 0 }
+stamp_of_reply (told.Swapped s) = s
+stamp_of_reply (told.Changed s) = s
 
 pub answer-stamp : (r : Option RecordValue) (since : List Cue) (reply : Reply) → answer_for r since ≡ Some reply → stamp_of_reply reply ≡ stamp_of_record r
 unfolding answer_for

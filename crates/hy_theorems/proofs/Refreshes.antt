@@ -5,18 +5,18 @@ use Rattle.std.proofs.lemmas.Option.{none-some}
 use Rattle.std.proofs.lemmas.Bool.{false≢true, true≢false}
 use Rattle.std.proofs.lemmas.Bool.Decides.{nat_tests}
 use Rattle.hy_record.specs.declared.message.MetaAsk.{MetaAsk}
-use Rattle.hy_record.specs.declared.message.MetaAsk.TheVariants as asks
 use Rattle.hy_record.specs.declared.message.MetaSay.TheVariants as says
 use Rattle.hy_record.specs.Stamp.{Timestamp, stamp_lt}
 use Rattle.hy_record.specs.Key.{key_eq}
 use Rattle.hy_record.specs.Record.{RecordValue}
 use Rattle.hy_record.proofs.Order.{stamp_lt-same, stamp_lt-le, stamp_lt-other, stamp_lt-trans}
-use Rattle.hy_meta.specs.Service.{stamp_of_record, record_after, record_stamp}
+use Rattle.hy_meta.specs.Service.{Attempt, attempt_of, applies, record_by, stamp_of_record, record_after, record_stamp}
+use Rattle.hy_meta.proofs.Lasting.{applied-parts}
 use Rattle.hy_meta.proofs.Rising.{cases_bool, both}
 use Rattle.hy_record.specs.declared.turn.Cue.{Cue}
 use Rattle.hy_record.specs.declared.turn.Cue.TheVariants as cues
 use Rattle.hy_protocol.specs.Inputs.{addresses, has_of, is_fired}
-use Rattle.hy_trace.specs.Points.{applied_count}
+use Rattle.hy_trace.specs.Points.{is_applied_on, applied_count}
 use Rattle.hy_protocol.specs.Read.{Version, newer_version, version_of, has_fired, read_reply, supersedes, is_refresh, refresh_count}
 use Rattle.hy_trace.specs.Deeds.{Params, Deed, Start, served, inputs_of, start_of, start_at}
 use Rattle.hy_trace.specs.Messages.{Say}
@@ -28,13 +28,13 @@ use Rattle.hy_theorems.proofs.Meaning.{WasStamp}
 use Rattle.hy_theorems.proofs.Invariant.{trace-holds, told-reading, begins-empty}
 
 -- how many updates of the key were applied that are not above the timestamp
+count_by : Option Attempt → List MetaAsk → List ℕ → Timestamp → ℕ → ℕ
+count_by None before key x n = n
+count_by (Some a) before key x n = cond (key_eq a.key key && applies (record_after before key) a) (cond (stamp_lt x a.rec.stamp) n (n + 1)) n
+
 count_to : List MetaAsk → List ℕ → Timestamp → ℕ
 count_to [] key x = 0
-count_to (asks.Update c o k r ∷ before) key x = cond (key_eq k key && stamp_lt (record_stamp before key) r.stamp) (cond (stamp_lt x r.stamp) (count_to before key x) (count_to before key x + 1)) (count_to before key x)
-count_to (asks.Read c o k ∷ before) key x = count_to before key x
-count_to (asks.Watch c o k s ∷ before) key x = count_to before key x
-count_to (asks.Olds c o k ∷ before) key x = count_to before key x
-count_to (asks.Forget c o k ss ∷ before) key x = count_to before key x
+count_to (ask ∷ before) key x = count_by (attempt_of before ask) before key x (count_to before key x)
 
 -- the request is an update of the key that is applied
 record Applies (ask : MetaAsk) (before : List MetaAsk) (key : List ℕ) : Type 0 where
@@ -51,22 +51,33 @@ record IsQuiet (ask : MetaAsk) (before : List MetaAsk) (key : List ℕ) : Type 0
   pub part : (x : Timestamp) → count_to (ask ∷ before) key x ≡ count_to before key x
 
 step-cases : (ask : MetaAsk) (before : List MetaAsk) (key : List ℕ) → Applies ask before key ⊎ IsQuiet ask before key
-unfolding applied_count count_to record_stamp record_after
-step-cases (asks.Read c o k) before key = inr (record { record_is = refl; count = refl; part = λ x. refl })
-step-cases (asks.Watch c o k s) before key = inr (record { record_is = refl; count = refl; part = λ x. refl })
-step-cases (asks.Olds c o k) before key = inr (record { record_is = refl; count = refl; part = λ x. refl })
-step-cases (asks.Forget c o k ss) before key = inr (record { record_is = refl; count = refl; part = λ x. refl })
-step-cases (asks.Update c o k r) before key =
-    elim (cases_bool (key_eq k key && stamp_lt (stamp_of_record (record_after before key)) r.stamp)) [
-      | inl applied ↦ inl (record {
-        stamp = r.stamp;
-        above = (both (key_eq k key) (stamp_lt (stamp_of_record (record_after before key)) r.stamp) applied).1;
-        record_is = rw applied refl;
-        count = rw applied refl;
-        part = λ x. rw applied refl;
-      })
-      | inr refused ↦ inr (record { record_is = rw refused refl; count = rw refused refl; part = λ x. rw refused refl })
-    ]
+unfolding applied_count record_stamp record_after count_to count_by
+step-cases ask before key = by_attempt (attempt_of before ask) refl
+  where
+    by_attempt : (o : Option Attempt) → attempt_of before ask ≡ o → Applies ask before key ⊎ IsQuiet ask before key
+    by_attempt None is =
+        inr (record {
+          record_is = ap (λ (y : Option Attempt). stamp_of_record (record_by y key (record_after before key))) is;
+          count = ap (λ (y : Option Attempt). cond (is_applied_on y before key) (applied_count before key + 1) (applied_count before key)) is;
+          part = λ x. ap (λ (y : Option Attempt). count_by y before key x (count_to before key x)) is;
+        })
+    by_attempt (Some a) is =
+        let record_is = ap (λ (y : Option Attempt). stamp_of_record (record_by y key (record_after before key))) is in
+        let count = ap (λ (y : Option Attempt). cond (is_applied_on y before key) (applied_count before key + 1) (applied_count before key)) is in
+        elim (cases_bool (key_eq a.key key && applies (record_after before key) a)) [
+          | inl applied ↦ inl (record {
+            stamp = a.rec.stamp;
+            above = (applied-parts (record_after before key) a (both (key_eq a.key key) (applies (record_after before key) a) applied).1).1;
+            record_is = record_is ∙ rw applied refl;
+            count = count ∙ rw applied refl;
+            part = λ x. ap (λ (y : Option Attempt). count_by y before key x (count_to before key x)) is ∙ rw applied refl;
+          })
+          | inr refused ↦ inr (record {
+            record_is = record_is ∙ rw refused refl;
+            count = count ∙ rw refused refl;
+            part = λ x. ap (λ (y : Option Attempt). count_by y before key x (count_to before key x)) is ∙ rw refused refl;
+          })
+        ]
 
 -- one request more does not lower the count
 rises : (ask : MetaAsk) (before : List MetaAsk) (key : List ℕ) (x : Timestamp) → count_to before key x ≤ count_to (ask ∷ before) key x
@@ -203,6 +214,8 @@ has-not-fired s (cues.Meta (says.Applied c o k q)) r has = refl
 has-not-fired s (cues.Meta (says.Kept c o k q)) r has = refl
 has-not-fired s (cues.Meta (says.OldList c o k ss)) r has = refl
 has-not-fired s (cues.Meta (says.Forgot c o k)) r has = refl
+has-not-fired s (cues.Meta (says.Swapped c o k q)) r has = refl
+has-not-fired s (cues.Meta (says.Changed c o k q)) r has = refl
 has-not-fired s (cues.Cloud reply) r has = refl
 has-not-fired s cues.Tick r has = refl
 

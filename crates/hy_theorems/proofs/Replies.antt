@@ -27,7 +27,11 @@ use Rattle.hy_protocol.specs.Inputs.{is_update_answer}
 use Rattle.hy_trace.specs.Order.{is_done}
 use Rattle.hy_trace.specs.Hashed.{IsInput}
 use Rattle.hy_trace.proofs.Growth.{or-cases}
-use Rattle.hy_theorems.proofs.Writes.{own-keeps, update-own, reply-cases}
+use Rattle.hy_record.specs.declared.message.MetaSay.{MetaSay}
+use Rattle.hy_record.specs.declared.message.MetaSay.TheVariants as says
+use Rattle.hy_record.specs.declared.turn.Cue.TheVariants as cues
+use Rattle.hy_protocol.specs.Swap.{verdict_in, answered_by}
+use Rattle.hy_theorems.proofs.Writes.{own-keeps, update-own, reply-cases, SwapReplies, swap-replied}
 
 -- a get that finished
 abbrev pub is_read_reply : Reply → Bool
@@ -36,6 +40,8 @@ is_read_reply (told.Absent s) = true
 is_read_reply (told.Done s) = false
 is_read_reply (told.Exhausted s) = false
 is_read_reply (told.Collected n) = false
+is_read_reply (told.Swapped s) = false
+is_read_reply (told.Changed s) = false
 
 -- a write replies Done with its timestamp, or that there is none left
 pub write-replies : (plan : PutPlan) (inputs : List Cue) (reply : Reply) → write_reply plan inputs ≡ Some reply →
@@ -102,6 +108,29 @@ by-read key (told.Absent s) is = refl
 by-read key (told.Done s) is = is
 by-read key (told.Exhausted s) is = is
 by-read key (told.Collected n) is = is
+by-read key (told.Swapped s) is = is
+by-read key (told.Changed s) is = is
+
+-- a swap replies that it did what was asked, that it found another record, or that no timestamp is left
+verdict-fits : (key v : List ℕ) (e : Timestamp) (r : RecordValue) (say : MetaSay) (reply : Reply) → verdict_in r say ≡ Some reply → is_reply_of (asked.Swap key e v) reply ≡ true
+verdict-fits key v e r (says.Swapped c o k s) reply is = ap (is_reply_of (asked.Swap key e v)) (sym (same_Some (told.Swapped r.stamp) reply is))
+verdict-fits key v e r (says.Changed c o k s) reply is = ap (is_reply_of (asked.Swap key e v)) (sym (same_Some (told.Changed s) reply is))
+verdict-fits key v e r (says.Has c o k h) reply is = absurd (none-some reply is)
+verdict-fits key v e r (says.Applied c o k s) reply is = absurd (none-some reply is)
+verdict-fits key v e r (says.Kept c o k s) reply is = absurd (none-some reply is)
+verdict-fits key v e r (says.Fired c o k s) reply is = absurd (none-some reply is)
+verdict-fits key v e r (says.OldList c o k ss) reply is = absurd (none-some reply is)
+verdict-fits key v e r (says.Forgot c o k) reply is = absurd (none-some reply is)
+
+answer-fits : (key v : List ℕ) (e : Timestamp) (r : RecordValue) (cue : Cue) (reply : Reply) → answered_by (Some r) cue ≡ Some reply → is_reply_of (asked.Swap key e v) reply ≡ true
+answer-fits key v e r (cues.Meta say) reply is = verdict-fits key v e r say reply is
+answer-fits key v e r (cues.Cloud answer) reply is = absurd (none-some reply is)
+answer-fits key v e r cues.Tick reply is = absurd (none-some reply is)
+
+swap-fits : (plan : PutPlan) (key v : List ℕ) (e : Timestamp) (inputs : List Cue) (reply : Reply) → SwapReplies plan e inputs reply → is_reply_of (asked.Swap key e v) reply ≡ true
+swap-fits plan key v e inputs reply (inl a) = answer-fits key v e a.rec a.cue reply a.answer
+swap-fits plan key v e inputs reply (inr (inl changed)) = ap (is_reply_of (asked.Swap key e v)) (sym changed.reply_is)
+swap-fits plan key v e inputs reply (inr (inr ended)) = ap (is_reply_of (asked.Swap key e v)) (sym ended.reply_is)
 
 -- a reply is one that the action can have
 pub reply-fits : (p : Params) (c o : ℕ) (a : Action) (inputs : List Cue) (reply : Reply) → replied p.f p.k c o a inputs ≡ Some reply → is_reply_of a reply ≡ true
@@ -110,6 +139,7 @@ reply-fits p c o (asked.Put key v) inputs reply is =
     elim (write-replies (write_plan p.f p.k c o key (Some v)) inputs reply is) [ inl done ↦ ap (is_reply_of (asked.Put key v)) (sym done.2) | inr limit ↦ ap (is_reply_of (asked.Put key v)) (sym limit.1) ]
 reply-fits p c o (asked.Delete key) inputs reply is =
     elim (write-replies (write_plan p.f p.k c o key None) inputs reply is) [ inl done ↦ ap (is_reply_of (asked.Delete key)) (sym done.2) | inr limit ↦ ap (is_reply_of (asked.Delete key)) (sym limit.1) ]
+reply-fits p c o (asked.Swap key e v) inputs reply is = swap-fits (write_plan p.f p.k c o key (Some v)) key v e inputs reply (swap-replied (write_plan p.f p.k c o key (Some v)) e inputs reply is)
 reply-fits p c o (asked.Get key) inputs reply is = by-read key reply (read-replies inputs reply is)
 reply-fits p c o (asked.Collect key) inputs reply is = ap (is_reply_of (asked.Collect key)) (sym (collect-replies (collect_plan p.f p.k c o key) inputs reply is).1)
 
@@ -123,6 +153,15 @@ phase-fits p c o (asked.Put key v) inputs = by_has (first_has inputs)
     by_update n (Some r) = refl
 
     by_has : (h : Option (Option RecordValue)) → is_phase_of (asked.Put key v) (progress_since_has (write_plan p.f p.k c o key (Some v)) inputs h).phase ≡ true
+    by_has None = refl
+    by_has (Some held) = by_update o (update_of (write_plan p.f p.k c o key (Some v)) inputs)
+phase-fits p c o (asked.Swap key e v) inputs = by_has (first_has inputs)
+  where
+    by_update : (n : ℕ) (u : Option RecordValue) → is_phase_of (asked.Swap key e v) (update_progress (write_plan p.f p.k c n key (Some v)) inputs (Some v) u).phase ≡ true
+    by_update n None = refl
+    by_update n (Some r) = refl
+
+    by_has : (h : Option (Option RecordValue)) → is_phase_of (asked.Swap key e v) (progress_since_has (write_plan p.f p.k c o key (Some v)) inputs h).phase ≡ true
     by_has None = refl
     by_has (Some held) = by_update o (update_of (write_plan p.f p.k c o key (Some v)) inputs)
 phase-fits p c o (asked.Delete key) inputs = by_has (first_has inputs)

@@ -10,7 +10,7 @@ use Rattle.hy_base.specs.Shape.{IsShape}
 use Rattle.hy_order.specs.declared.operation.Operation.{Operation}
 use Rattle.hy_order.specs.History.{key_of_action}
 use Rattle.hy_order.specs.Keys.{sorted_keys}
-use Rattle.hy_order.specs.ReportRanges.{register_key, register_keys}
+use Rattle.hy_order.specs.Keys.{register_key, register_keys}
 use Rattle.hy_order.specs.Linearization.{IsLinearized, IsReportLinearizable, acts_on_register, has_order}
 use Rattle.hy_order.proofs.SortedKeys.{has_key, has_key-insert_key, has_key-after_insert}
 use Rattle.hy_trace.specs.Deeds.{Params, Deed}
@@ -33,6 +33,7 @@ named-first : (a : Action) → acts_on_register a ≡ true → register_key a �
 named-first (asked.Put key v) is = refl
 named-first (asked.Get key) is = refl
 named-first (asked.Delete key) is = refl
+named-first (asked.Swap key e v) is = refl
 named-first (asked.Collect key) is = absurd (false≢true is)
 
 -- the key of each put, get and delete is among the keys

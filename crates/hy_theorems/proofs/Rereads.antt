@@ -69,6 +69,8 @@ has-not-fired (cues.Meta (says.Kept c o k q)) r s is = refl
 has-not-fired (cues.Meta (says.Fired c o k q)) r s is = absurd (none-some r is)
 has-not-fired (cues.Meta (says.OldList c o k q)) r s is = refl
 has-not-fired (cues.Meta (says.Forgot c o k)) r s is = refl
+has-not-fired (cues.Meta (says.Swapped c o k q)) r s is = refl
+has-not-fired (cues.Meta (says.Changed c o k q)) r s is = refl
 has-not-fired (cues.Cloud reply) r s is = refl
 has-not-fired cues.Tick r s is = refl
 
@@ -125,6 +127,8 @@ no-reply cue before unfinished news = rw unfinished (by_version cue (version_of 
     by_record (cues.Meta (says.Kept c o k q)) v (Some r) rec_is is none = absurd (both_ways false refl (both (not (has_fired r v.since)) false is).1)
     by_record (cues.Meta (says.OldList c o k q)) v (Some r) rec_is is none = absurd (both_ways false refl (both (not (has_fired r v.since)) false is).1)
     by_record (cues.Meta (says.Forgot c o k)) v (Some r) rec_is is none = absurd (both_ways false refl (both (not (has_fired r v.since)) false is).1)
+    by_record (cues.Meta (says.Swapped c o k q)) v (Some r) rec_is is none = absurd (both_ways false refl (both (not (has_fired r v.since)) false is).1)
+    by_record (cues.Meta (says.Changed c o k q)) v (Some r) rec_is is none = absurd (both_ways false refl (both (not (has_fired r v.since)) false is).1)
     by_record (cues.Cloud reply) v (Some r) rec_is is none = absurd (both_ways false refl (both (not (has_fired r v.since)) false is).1)
     by_record cues.Tick v (Some r) rec_is is none = absurd (both_ways false refl (both (not (has_fired r v.since)) false is).1)
 

@@ -5,8 +5,6 @@ use Rattle.std.specs.Option.{option_and_then}
 use Rattle.std.specs.List.{AllByRecursion, list_any, range_with_len}
 use Rattle.std.proofs.lemmas.Option.{none-some, same_Some, cond_some}
 use Rattle.std.proofs.lemmas.Bool.{eqb-true, false≢true, leb-true, both_ways}
-use Rattle.hy_record.specs.declared.message.MetaAsk.TheVariants as asks
-use Rattle.hy_record.specs.declared.action.Action.TheVariants as asked
 use Rattle.hy_record.specs.Stamp.{Timestamp, stamp_eq, stamp_lt}
 use Rattle.hy_record.specs.Key.{key_eq}
 use Rattle.hy_base.specs.Shape.{IsShape, cloud_count, quorum_size}
@@ -26,16 +24,20 @@ use Rattle.hy_protocol.specs.Cloud.{bytes_held}
 use Rattle.hy_protocol.specs.declared.plan.PutPlan.{PutPlan}
 use Rattle.hy_protocol.specs.Write.{first_has, since_has, own_stamp, acknowledging_clouds, value_record, record_with, record_at, update_of}
 use Rattle.hy_trace.specs.Deeds.{Params, Deed, Start, served, granted, inputs_of, start_of}
-use Rattle.hy_trace.specs.Messages.{Ask, Answer}
+use Rattle.hy_trace.specs.Messages.{Answer}
 use Rattle.hy_protocol.specs.Operations.{key_of, write_plan}
-use Rattle.hy_trace.specs.Trace.{IsTrace}
+use Rattle.hy_record.specs.declared.cloud.CloudSay.{CloudSay}
+use Rattle.hy_record.specs.declared.cloud.CloudSay.TheVariants.{Stored, Conflict, Body, Missing, Gone, Bad}
+use Rattle.hy_trace.specs.Trace.{IsTrace, is_had}
 pub use Rattle.hy_theorems.specs.Retrieval.{IsHolder, IsRetrievable}
 use Rattle.hy_trace.proofs.Growth.{or-cases, start-same}
-use Rattle.hy_theorems.proofs.Writes.{update-own}
+use Rattle.hy_meta.proofs.Lasting.{applied-tried}
+use Rattle.hy_theorems.specs.Writing.{change_value}
+use Rattle.hy_theorems.proofs.Writes.{key_of-write, change-same, update-own}
 use Rattle.hy_trace.proofs.Heard.{IsInput, inputs-heard}
-use Rattle.hy_theorems.proofs.Meaning.{all-weaken, IsUpdating, IsPutting, WasOld, was-below, write_action, asked-sent}
-use Rattle.hy_theorems.proofs.Speaking.{record-asked, all-filtered}
-use Rattle.hy_theorems.proofs.Invariant.{trace-holds, write_action-same}
+use Rattle.hy_theorems.proofs.Meaning.{all-weaken, IsUpdating, IsPutting, WasOld, was-below}
+use Rattle.hy_theorems.proofs.Speaking.{record-applied, all-filtered}
+use Rattle.hy_theorems.proofs.Invariant.{trace-holds, by-means}
 use Rattle.hy_theorems.proofs.Apart.{IsWriting, stamps-differ}
 use Rattle.hy_theorems.proofs.Told.{IsRecordOf, update-is}
 use Rattle.hy_theorems.proofs.Ordering.{all-both}
@@ -134,26 +136,38 @@ name-key : (c o b n : ℕ) (k key : List ℕ) → (b == c && n == o && key_eq k 
 name-key c o b n k key is = key_eq-true k key (both (b == c && n == o) (key_eq k key) is).1
 
 -- what a cloud holds under a record's name is the fragment of the record's value
-pub own-fragment : (p : Params) (t : List Deed) (key : List ℕ) (r : RecordValue) → IsTrace p t → (c o : ℕ) (v : List ℕ) (u : IsUpdating p c o key r t) → u.value ≡ Some v → (cloud : ℕ) (bytes : List ℕ) → (b n : ℕ) × IsPutting p b n cloud key r.stamp bytes t → bytes ≡ fragment_of v p.k cloud
-own-fragment p t key r trace c o v u value_is cloud bytes put =
+pub own-fragment : (p : Params) (t : List Deed) (key : List ℕ) (e : Option Timestamp) (r : RecordValue) → IsTrace p t → (c o : ℕ) (v : List ℕ) (u : IsUpdating p c o key e r t) → change_value u.change ≡ Some v → (cloud : ℕ) (bytes : List ℕ) → (b n : ℕ) × IsPutting p b n cloud key r.stamp bytes t → bytes ≡ fragment_of v p.k cloud
+own-fragment p t key e r trace c o v u value_is cloud bytes put =
     let q = put.2 in
-    let first : IsWriting p c o key r.stamp t = record { start = u.start; began = u.began; value = u.value; action_is = u.action_is; own = update-own (write_plan p.f p.k c o key u.value) (inputs_of c o t) r u.update } in
-    let second : IsWriting p put.0 put.1 key r.stamp t = record { start = q.start; began = q.began; value = Some q.value; action_is = q.action_is; own = q.own } in
+    let first : IsWriting p c o key r.stamp t = record { start = u.start; began = u.began; change = u.change; action_is = u.action_is; met = u.met; own = update-own (write_plan p.f p.k c o key (change_value u.change)) (inputs_of c o t) r u.update } in
+    let second : IsWriting p put.0 put.1 key r.stamp t = record { start = q.start; began = q.began; change = q.change; action_is = q.action_is; met = q.met; own = q.own } in
     let one = stamps-differ p t c o put.0 put.1 key r.stamp trace first second in
     let began : start_of c o t ≡ Some q.start = ap (λ (x : ℕ). start_of x o t) one.0 ∙ (ap (λ (x : ℕ). start_of put.0 x t) one.1 ∙ q.began) in
-    let values : Some v ≡ Some q.value = write_action-same key key (Some v) (Some q.value) (sym (u.action_is ∙ ap (write_action key) value_is) ∙ (ap (λ (s : Start). s.action) (start-same c o t u.start q.start u.began began) ∙ q.action_is)) in
+    let changes : u.change ≡ q.change = change-same key key u.change q.change (sym u.action_is ∙ (ap (λ (s : Start). s.action) (start-same c o t u.start q.start u.began began) ∙ q.action_is)) in
+    let values : Some v ≡ Some q.value = sym value_is ∙ (ap change_value changes ∙ q.stores) in
     q.bytes_are ∙ ap (λ (x : List ℕ). fragment_of x p.k cloud) (sym (same_Some v q.value values))
 
--- an honest cloud that acknowledged a put's timestamp holds something under its name, or that was superseded
-pub acknowledged-kept : (p : Params) (t : List Deed) (key : List ℕ) (r : RecordValue) → IsTrace p t → (c o : ℕ) (v : List ℕ) (u : IsUpdating p c o key r t) → u.value ≡ Some v → (cloud : ℕ) → IsAcknowledged r.stamp (inputs_of c o t) cloud → (p.is_liar cloud ≡ true) ⊎ IsKept t cloud key r.stamp
+-- an acknowledgement could be had
+stored-had : (say : CloudSay) → is_stored say ≡ true → is_had say ≡ true
+stored-had (Stored fresh) is = refl
+stored-had Conflict is = refl
+stored-had (Body bytes) is = refl
+stored-had Missing is = refl
+stored-had Gone is = refl
+stored-had (Bad code) is = absurd (false≢true is)
+
+-- an honest cloud that acknowledged a write's timestamp holds something under its name, or that was superseded
+pub acknowledged-kept : (p : Params) (t : List Deed) (key : List ℕ) (e : Option Timestamp) (r : RecordValue) → IsTrace p t → (c o : ℕ) (u : IsUpdating p c o key e r t) → (cloud : ℕ) → IsAcknowledged r.stamp (inputs_of c o t) cloud → (p.is_liar cloud ≡ true) ⊎ IsKept t cloud key r.stamp
 unfolding addresses
-acknowledged-kept p t key r trace c o v u value_is cloud a =
+acknowledged-kept p t key e r trace c o u cloud a =
     let h = inputs-heard p c o (cues.Cloud a.reply) t trace a.input in
     let same_start = start-same c o t h.start u.start h.began u.began in
-    let action : u.start.action ≡ asked.Put key v = u.action_is ∙ ap (write_action key) value_is in
-    let key_is : a.reply.key ≡ key = name-key c o a.reply.client a.reply.op a.reply.key (key_of h.start.action) h.own ∙ (ap (λ (s : Start). key_of s.action) same_start ∙ ap key_of action) in
+    let key_is : a.reply.key ≡ key = name-key c o a.reply.client a.reply.op a.reply.key (key_of h.start.action) h.own ∙ (ap (λ (s : Start). key_of s.action) same_start ∙ (ap key_of u.action_is ∙ key_of-write key u.change)) in
     elim h.delivered [
-      | inr liar ↦ inl (subst (λ (i : ℕ). p.is_liar i ≡ true) a.cloud_is liar)
+      | inr other ↦ elim other [
+        | inl liar ↦ inl (subst (λ (i : ℕ). p.is_liar i ≡ true) a.cloud_is liar)
+        | inr lost ↦ absurd (false≢true (sym lost ∙ stored-had a.reply.say a.stored))
+      ]
       | inl sent ↦
           let kept : IsKept t a.reply.cloud a.reply.key a.reply.stamp = stored-held p t trace (Answer a.reply) sent a.stored in
           inr (subst (λ (x : Timestamp). IsKept t cloud key x) a.stamp_is (subst (λ (x : List ℕ). IsKept t cloud x a.reply.stamp) key_is (subst (λ (x : ℕ). IsKept t x a.reply.key a.reply.stamp) a.cloud_is kept)))
@@ -164,33 +178,35 @@ module _ (p : Params) (t : List Deed) (trace : IsTrace p t) (shape : IsShape p.f
   unfolding record_stamp
   not-old old = both_ways (stamp_lt r.stamp r.stamp) (stamp_lt-same r.stamp) (ap (λ (o : Option RecordValue). stamp_lt r.stamp (stamp_of_record o)) (sym is) ∙ was-below (served t) key r.stamp old)
 
-  holder-or-liar : (c o : ℕ) (v : List ℕ) (u : IsUpdating p c o key r t) → u.value ≡ Some v → (cloud : ℕ) → IsAcknowledged r.stamp (inputs_of c o t) cloud → (p.is_liar cloud ≡ true) ⊎ (bytes_held (granted cloud t) key r.stamp ≡ Some (fragment_of v p.k cloud))
-  holder-or-liar c o v u value_is cloud a =
-      elim (acknowledged-kept p t key r trace c o v u value_is cloud a) [
+  holder-or-liar : (c o : ℕ) (e : Option Timestamp) (v : List ℕ) (u : IsUpdating p c o key e r t) → change_value u.change ≡ Some v → (cloud : ℕ) → IsAcknowledged r.stamp (inputs_of c o t) cloud → (p.is_liar cloud ≡ true) ⊎ (bytes_held (granted cloud t) key r.stamp ≡ Some (fragment_of v p.k cloud))
+  holder-or-liar c o e v u value_is cloud a =
+      elim (acknowledged-kept p t key e r trace c o u cloud a) [
         | inl liar ↦ inl liar
         | inr kept ↦ elim kept [
           | inl old ↦ absurd (not-old old)
-          | inr held ↦ inr (held.1 ∙ ap Some (own-fragment p t key r trace c o v u value_is cloud held.0 (held-put p cloud key r.stamp held.0 t trace held.1)))
+          | inr held ↦ inr (held.1 ∙ ap Some (own-fragment p t key e r trace c o v u value_is cloud held.0 (held-put p cloud key r.stamp held.0 t trace held.1)))
         ]
       ]
 
-  holder : (c o : ℕ) (v : List ℕ) (u : IsUpdating p c o key r t) → u.value ≡ Some v → (cloud : ℕ) → cloud < cloud_count p.f p.k → IsAcknowledged r.stamp (inputs_of c o t) cloud → IsHolder p t key r.stamp v cloud
-  holder c o v u value_is cloud within a = (within, holder-or-liar c o v u value_is cloud a)
+  holder : (c o : ℕ) (e : Option Timestamp) (v : List ℕ) (u : IsUpdating p c o key e r t) → change_value u.change ≡ Some v → (cloud : ℕ) → cloud < cloud_count p.f p.k → IsAcknowledged r.stamp (inputs_of c o t) cloud → IsHolder p t key r.stamp v cloud
+  holder c o e v u value_is cloud within a = (within, holder-or-liar c o e v u value_is cloud a)
 
-  by-value : (c o : ℕ) (u : IsUpdating p c o key r t) (value : Option (List ℕ)) → u.value ≡ value → IsRetrievable p t key r
+  by-value : (c o : ℕ) (e : Option Timestamp) (u : IsUpdating p c o key e r t) (value : Option (List ℕ)) → change_value u.change ≡ value → IsRetrievable p t key r
   unfolding update_of
-  by-value c o u None value_is = inl (ap (λ (x : RecordValue). x.kind) (subst (λ (v : Option (List ℕ)). IsRecordOf p v r) value_is (update-is p c o key u.value (inputs_of c o t) r u.update)))
-  by-value c o u (Some v) value_is =
+  by-value c o e u None value_is = inl (ap (λ (x : RecordValue). x.kind) (subst (λ (v : Option (List ℕ)). IsRecordOf p v r) value_is (update-is p c o key (change_value u.change) (inputs_of c o t) r u.update)))
+  by-value c o e u (Some v) value_is =
       let q = update-quorum p c o key v (inputs_of c o t) r (ap (λ (x : Option (List ℕ)). update_of (write_plan p.f p.k c o key x) (inputs_of c o t)) (sym value_is) ∙ u.update) in
       let same : clouds_of r.clouds ≡ q.list = listed-clouds p v (inputs_of c o t) r shape q in
       let Listed : List ℕ → Type 0 = λ xs. (r ≡ value_record r.stamp v p.f p.k xs) × (quorum_size p.f p.k ≤ length xs) × AllByRecursion (IsHolder p t key r.stamp v) xs in
-      let holders = all-both (λ cloud. cloud < cloud_count p.f p.k) (IsAcknowledged r.stamp (inputs_of c o t)) (IsHolder p t key r.stamp v) q.list (λ cloud within a. holder c o v u value_is cloud within a) (listed-low p v (inputs_of c o t) r q) q.acknowledged in
+      let holders = all-both (λ cloud. cloud < cloud_count p.f p.k) (IsAcknowledged r.stamp (inputs_of c o t)) (IsHolder p t key r.stamp v) q.list (λ cloud within a. holder c o e v u value_is cloud within a) (listed-low p v (inputs_of c o t) r q) q.acknowledged in
       let all : Listed (clouds_of r.clouds) = subst Listed (sym same) (q.is, q.enough, holders) in
       inr (record { value = v; record_is = all.0; quorum = all.1; holders = all.2 })
 
   -- the record of a key is that of a delete, or its value can be retrieved
   pub retrievable : IsRetrievable p t key r
   retrievable =
-      let of = record-asked (served t) key r is in
-      let u : IsUpdating p of.0 of.1 key r t = (trace-holds p t trace).said (Ask (asks.Update of.0 of.1 key r)) (asked-sent p t (asks.Update of.0 of.1 key r) trace of.2) in
-      by-value of.0 of.1 u u.value refl
+      let of = record-applied t key r is in
+      let a = of.0 in
+      let meant : IsUpdating p a.client a.op key a.expected a.rec t = by-means p t a a.client a.op key trace (trace-holds p t trace) (applied-tried (served t) a of.1) (refl, refl, of.2) in
+      let u : IsUpdating p a.client a.op key a.expected r t = subst (λ (x : RecordValue). IsUpdating p a.client a.op key a.expected x t) of.3 meant in
+      by-value a.client a.op a.expected u (change_value u.change) refl

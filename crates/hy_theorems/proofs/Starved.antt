@@ -5,7 +5,10 @@ use Rattle.std.specs.Option.{option_or, option_map}
 use Rattle.std.specs.List.{AllByRecursion, list_any, range_with_len, filter_map, cons_option}
 use Rattle.std.proofs.lemmas.Bool.{eqb-true, eq-eqb, le-leb, false≢true, true≢false}
 use Rattle.std.proofs.lemmas.Option.{none-some}
-use Rattle.hy_record.specs.declared.message.MetaAsk.TheVariants as asks
+use Rattle.hy_meta.proofs.Lasting.{applied-tried}
+use Rattle.hy_protocol.specs.Operations.{value_of}
+use Rattle.hy_theorems.specs.Writing.{change_value}
+use Rattle.hy_theorems.proofs.Writes.{value_of-write}
 use Rattle.hy_record.specs.declared.action.Action.TheVariants as asked
 use Rattle.hy_record.specs.declared.action.Reply.{Reply}
 use Rattle.hy_record.specs.declared.action.Reply.TheVariants as told
@@ -28,15 +31,15 @@ use Rattle.hy_protocol.specs.Write.{value_record, update_of}
 use Rattle.hy_protocol.specs.Read.{Version, version_of, valid_bytes, valid_in, first_valid, valid_picks, answer_for, answer_of, read_reply}
 use Rattle.hy_record.specs.Record.{is_tombstone, is_valid_fragment}
 use Rattle.hy_trace.specs.Deeds.{Params, Deed, Start, served, inputs_of, start_of, reply_of, reply_after}
-use Rattle.hy_trace.specs.Messages.{Ask, Answer}
+use Rattle.hy_trace.specs.Messages.{Answer}
 use Rattle.hy_protocol.specs.Operations.{key_of, write_plan, replied}
-use Rattle.hy_trace.specs.Trace.{IsTrace}
+use Rattle.hy_trace.specs.Trace.{IsTrace, is_had}
 use Rattle.hy_trace.specs.Held.{HasLiars}
 use Rattle.hy_theorems.specs.Starving.{IsStarved}
 use Rattle.hy_trace.proofs.Growth.{start-same, top}
 use Rattle.hy_trace.proofs.Heard.{IsInput, version-told, inputs-heard}
-use Rattle.hy_theorems.proofs.Meaning.{IsUpdating, IsPutting, IsReading, WasOld, was-below, asked-sent}
-use Rattle.hy_theorems.proofs.Invariant.{trace-holds, told-reading}
+use Rattle.hy_theorems.proofs.Meaning.{IsUpdating, IsPutting, IsReading, WasOld, was-below}
+use Rattle.hy_theorems.proofs.Invariant.{trace-holds, told-reading, by-means}
 use Rattle.hy_theorems.proofs.Masks.{more-pass, both-pass, enough-honest}
 use Rattle.hy_theorems.proofs.Values.{since-inputs}
 use Rattle.hy_theorems.proofs.Told.{IsRecordOf, update-is, tomb-is}
@@ -50,23 +53,24 @@ record GaveAnswer (stamp : Timestamp) (inputs : List Cue) (cloud : ℕ) : Type 0
   pub input : IsInput inputs (cues.Cloud reply)
   pub cloud_is : reply.cloud ≡ cloud
   pub stamp_is : reply.stamp ≡ stamp
+  pub had : is_had reply.say ≡ true
 
 either : (a b : Bool) → (a || b) ≡ true → (a ≡ true) ⊎ (b ≡ true)
 either true b is = inl refl
 either false b is = inr is
 
-answer-given : (stamp : Timestamp) (cloud : ℕ) (cue : Cue) (inputs : List Cue) → IsInput inputs cue → is_answer (λ say. true) stamp cloud cue ≡ true → GaveAnswer stamp inputs cloud
+answer-given : (stamp : Timestamp) (cloud : ℕ) (cue : Cue) (inputs : List Cue) → IsInput inputs cue → is_answer is_had stamp cloud cue ≡ true → GaveAnswer stamp inputs cloud
 answer-given stamp cloud (cues.Cloud reply) inputs input is =
-    let outer = both (reply.cloud == cloud && stamp_eq reply.stamp stamp) true is in
+    let outer = both (reply.cloud == cloud && stamp_eq reply.stamp stamp) (is_had reply.say) is in
     let inner = both (reply.cloud == cloud) (stamp_eq reply.stamp stamp) outer.0 in
-    record { reply = reply; input = input; cloud_is = eqb-true reply.cloud cloud inner.0; stamp_is = stamp_eq-true reply.stamp stamp inner.1 }
+    record { reply = reply; input = input; cloud_is = eqb-true reply.cloud cloud inner.0; stamp_is = stamp_eq-true reply.stamp stamp inner.1; had = outer.1 }
 answer-given stamp cloud (cues.Meta say) inputs input is = absurd (false≢true is)
 answer-given stamp cloud cues.Tick inputs input is = absurd (false≢true is)
 
-any-given : (stamp : Timestamp) (cloud : ℕ) (some all : List Cue) → ((cue : Cue) → IsInput some cue → IsInput all cue) → list_any (is_answer (λ say. true) stamp cloud) some ≡ true → GaveAnswer stamp all cloud
+any-given : (stamp : Timestamp) (cloud : ℕ) (some all : List Cue) → ((cue : Cue) → IsInput some cue → IsInput all cue) → list_any (is_answer is_had stamp cloud) some ≡ true → GaveAnswer stamp all cloud
 any-given stamp cloud [] all within is = absurd (false≢true is)
 any-given stamp cloud (cue ∷ some) all within is =
-    elim (either (is_answer (λ say. true) stamp cloud cue) (list_any (is_answer (λ say. true) stamp cloud) some) is) [
+    elim (either (is_answer is_had stamp cloud cue) (list_any (is_answer is_had stamp cloud) some) is) [
       | inl first ↦ answer-given stamp cloud cue all (within cue (inl refl)) first
       | inr later ↦ any-given stamp cloud some all (λ x i. within x (inr i)) later
     ]
@@ -138,14 +142,14 @@ pending-read p t c o s key began action pending =
 
 -- a pending read of the key
 module _ (p : Params) (t : List Deed) (trace : IsTrace p t) (shape : IsShape p.f p.k) (c o : ℕ) (s : Start) (key : List ℕ) (began : start_of c o t ≡ Some s) (action : s.action ≡ asked.Get key) (w : Version) (version : version_of (inputs_of c o t) ≡ Some w) (r : RecordValue) (rec_is : w.rec ≡ Some r) where
-  -- with the put that wrote its record
-  module _ (b n : ℕ) (v : List ℕ) (u : IsUpdating p b n key r t) (value_is : u.value ≡ Some v) (list : List ℕ) (record_is : r ≡ value_record r.stamp v p.f p.k list) where
+  -- with the write that made its record
+  module _ (b n : ℕ) (e : Option Timestamp) (v : List ℕ) (u : IsUpdating p b n key e r t) (value_is : change_value u.change ≡ Some v) (list : List ℕ) (record_is : r ≡ value_record r.stamp v p.f p.k list) where
     never-put : (reply : CloudReply) → reply.client ≡ c → reply.op ≡ o → (bytes : List ℕ) → IsPutting p reply.client reply.op reply.cloud reply.key reply.stamp bytes t → ⊥
     never-put reply client op bytes put =
         let same : start_of c o t ≡ Some put.start = ap (λ (x : ℕ). start_of x o t) (sym client) ∙ (ap (λ (x : ℕ). start_of reply.client x t) (sym op) ∙ put.began) in
         let one : put.start ≡ s = start-same c o t put.start s same began in
-        let actions : asked.Put reply.key put.value ≡ asked.Get key = sym put.action_is ∙ (ap (λ (x : Start). x.action) one ∙ action) in
-        cc
+        let stores : value_of put.start.action ≡ Some put.value = ap value_of put.action_is ∙ (value_of-write reply.key put.change ∙ put.stores) in
+        none-some put.value (sym (ap value_of (ap (λ (x : Start). x.action) one ∙ action)) ∙ stores)
 
     said-counts : (reply : CloudReply) → IsInput w.since (cues.Cloud reply) → reply.stamp ≡ r.stamp → reply.cloud < cloud_count p.f p.k → (say : CloudSay) → reply.say ≡ say → reply.client ≡ c → reply.op ≡ o → reply.key ≡ key → MeansSaid p t reply.client reply.op reply.cloud reply.key reply.stamp say → WasOld (served t) key r.stamp ⊎ (is_some (first_valid r reply.cloud w.since) ≡ true)
     said-counts reply input stamp_is within (Stored fresh) say_is client op key_is means = absurd (never-put reply client op means.0 means.1)
@@ -155,12 +159,12 @@ module _ (p : Params) (t : List Deed) (trace : IsTrace p t) (shape : IsShape p.f
     said-counts reply input stamp_is within (Bad code) say_is client op key_is means = absurd means
     said-counts reply input stamp_is within (Body bytes) say_is client op key_is means =
         let put : IsPutting p means.0 means.1 reply.cloud key r.stamp bytes t = subst (λ (k : List ℕ). IsPutting p means.0 means.1 reply.cloud k r.stamp bytes t) key_is (subst (λ (x : Timestamp). IsPutting p means.0 means.1 reply.cloud reply.key x bytes t) stamp_is means.2) in
-        let bytes_are : bytes ≡ fragment_of v p.k reply.cloud = own-fragment p t key r trace b n v u value_is reply.cloud bytes (means.0, means.1, put) in
+        let bytes_are : bytes ≡ fragment_of v p.k reply.cloud = own-fragment p t key e r trace b n v u value_is reply.cloud bytes (means.0, means.1, put) in
         let valid : is_valid_fragment r reply.cloud bytes ≡ true = ap (is_valid_fragment r reply.cloud) bytes_are ∙ (ap (λ (x : RecordValue). is_valid_fragment x reply.cloud (fragment_of v p.k reply.cloud)) record_is ∙ own-valid r.stamp v p.f p.k list reply.cloud shape within) in
         inr (first-counts r reply.cloud reply w.since input (body-counts r reply.cloud reply bytes refl stamp_is say_is valid))
 
     -- of an honest cloud of the list
-    honest-counts : (cloud : ℕ) → cloud < cloud_count p.f p.k → p.is_liar cloud ≡ false → list_any (is_answer (λ say. true) r.stamp cloud) w.since ≡ true → WasOld (served t) key r.stamp ⊎ (is_some (first_valid r cloud w.since) ≡ true)
+    honest-counts : (cloud : ℕ) → cloud < cloud_count p.f p.k → p.is_liar cloud ≡ false → list_any (is_answer is_had r.stamp cloud) w.since ≡ true → WasOld (served t) key r.stamp ⊎ (is_some (first_valid r cloud w.since) ≡ true)
     unfolding addresses
     honest-counts cloud within honest given =
         let g = any-given r.stamp cloud w.since w.since (λ x i. i) given in
@@ -170,14 +174,17 @@ module _ (p : Params) (t : List Deed) (trace : IsTrace p t) (shape : IsShape p.f
         let inner = both (g.reply.client == c) (g.reply.op == o) outer.0 in
         let key_is : g.reply.key ≡ key = key_eq-true g.reply.key (key_of h.start.action) outer.1 ∙ same in
         elim h.delivered [
-          | inr liar ↦ absurd (true≢false (sym liar ∙ (ap p.is_liar g.cloud_is ∙ honest)))
+          | inr other ↦ elim other [
+            | inl liar ↦ absurd (true≢false (sym liar ∙ (ap p.is_liar g.cloud_is ∙ honest)))
+            | inr lost ↦ absurd (true≢false (sym g.had ∙ lost))
+          ]
           | inl sent ↦
               let means : MeansSaid p t g.reply.client g.reply.op g.reply.cloud g.reply.key g.reply.stamp g.reply.say = answers-hold p t trace shape (Answer g.reply) sent in
               let counts = said-counts g.reply g.input g.stamp_is (subst (λ (x : ℕ). x < cloud_count p.f p.k) (sym g.cloud_is) within) g.reply.say refl (eqb-true g.reply.client c inner.0) (eqb-true g.reply.op o inner.1) key_is means in
               subst (λ (x : ℕ). WasOld (served t) key r.stamp ⊎ (is_some (first_valid r x w.since) ≡ true)) g.cloud_is counts
         ]
 
-    each-counts : (xs : List ℕ) → AllByRecursion (λ cloud. cloud < cloud_count p.f p.k) xs → AllByRecursion (λ cloud. p.is_liar cloud ≡ false → list_any (is_answer (λ say. true) r.stamp cloud) w.since ≡ true) xs → WasOld (served t) key r.stamp ⊎ AllByRecursion (λ cloud. not (p.is_liar cloud) ≡ true → is_some (first_valid r cloud w.since) ≡ true) xs
+    each-counts : (xs : List ℕ) → AllByRecursion (λ cloud. cloud < cloud_count p.f p.k) xs → AllByRecursion (λ cloud. p.is_liar cloud ≡ false → list_any (is_answer is_had r.stamp cloud) w.since ≡ true) xs → WasOld (served t) key r.stamp ⊎ AllByRecursion (λ cloud. not (p.is_liar cloud) ≡ true → is_some (first_valid r cloud w.since) ≡ true) xs
     each-counts [] low given = inr tt
     each-counts (cloud ∷ xs) low given =
         elim (each-counts xs low.1 given.1) [
@@ -213,20 +220,22 @@ module _ (p : Params) (t : List Deed) (trace : IsTrace p t) (shape : IsShape p.f
       let same : key_of h.start.action ≡ key = ap (λ (x : Start). key_of x.action) (start-same c o t h.start s h.began began) ∙ ap key_of action in
       let reading : IsReading c o key (Some r) t = subst (λ (k : List ℕ). IsReading c o k (Some r) t) same (told-reading p t c o (key_of h.start.action) told_.cue (Some r) (trace-holds p t trace) (told_.tells ∙ ap Some rec_is) h.own h.delivered) in
       let of = reading.written in
-      let u : IsUpdating p of.0 of.1 key r t = (trace-holds p t trace).said (Ask (asks.Update of.0 of.1 key r)) (asked-sent p t (asks.Update of.0 of.1 key r) trace of.2) in
-      by_value of.0 of.1 u u.value refl few
+      let a = of.0 in
+      let meant : IsUpdating p a.client a.op key a.expected a.rec t = by-means p t a a.client a.op key trace (trace-holds p t trace) (applied-tried (served t) a of.1) (refl, refl, of.2) in
+      let u : IsUpdating p a.client a.op key a.expected r t = subst (λ (x : RecordValue). IsUpdating p a.client a.op key a.expected x t) of.3 meant in
+      by_value a.client a.op a.expected u (change_value u.change) refl few
     where
-      by_value : (b n : ℕ) (u : IsUpdating p b n key r t) (value : Option (List ℕ)) → u.value ≡ value → (is_tombstone r.kind ≡ false) × (r.k ≤ length (valid_picks r w.since) → ⊥) → stamp_lt r.stamp (top t key) ≡ true
-      by_value b n u None value_is few =
-          absurd (true≢false (sym (tomb-is r (subst (λ (v : Option (List ℕ)). IsRecordOf p v r) value_is (update-is p b n key u.value (inputs_of b n t) r u.update))) ∙ few.0))
-      by_value b n u (Some v) value_is few =
+      by_value : (b n : ℕ) (e : Option Timestamp) (u : IsUpdating p b n key e r t) (value : Option (List ℕ)) → change_value u.change ≡ value → (is_tombstone r.kind ≡ false) × (r.k ≤ length (valid_picks r w.since) → ⊥) → stamp_lt r.stamp (top t key) ≡ true
+      by_value b n e u None value_is few =
+          absurd (true≢false (sym (tomb-is r (subst (λ (v : Option (List ℕ)). IsRecordOf p v r) value_is (update-is p b n key (change_value u.change) (inputs_of b n t) r u.update))) ∙ few.0))
+      by_value b n e u (Some v) value_is few =
           let q : IsQuorumRecord p v (inputs_of b n t) r = update-quorum p b n key v (inputs_of b n t) r (ap (λ (x : Option (List ℕ)). update_of (write_plan p.f p.k b n key x) (inputs_of b n t)) (sym value_is) ∙ u.update) in
           let listed : clouds_of r.clouds ≡ filter q.test (range_with_len 0 (cloud_count p.f p.k)) = listed-clouds p v (inputs_of b n t) r shape q ∙ q.chosen in
-          let Given : List ℕ → Type 0 = λ xs. AllByRecursion (λ cloud. p.is_liar cloud ≡ false → list_any (is_answer (λ say. true) r.stamp cloud) w.since ≡ true) xs in
+          let Given : List ℕ → Type 0 = λ xs. AllByRecursion (λ cloud. p.is_liar cloud ≡ false → list_any (is_answer is_had r.stamp cloud) w.since ≡ true) xs in
           let given : Given (filter q.test (range_with_len 0 (cloud_count p.f p.k))) = subst Given listed starved in
           let low : AllByRecursion (λ cloud. cloud < cloud_count p.f p.k) (filter q.test (range_with_len 0 (cloud_count p.f p.k))) = subst (λ (xs : List ℕ). AllByRecursion (λ cloud. cloud < cloud_count p.f p.k) xs) q.chosen (listed-low p v (inputs_of b n t) r q) in
           let enough : p.f + p.k ≤ length (filter q.test (range_with_len 0 (cloud_count p.f p.k))) = subst (λ (xs : List ℕ). p.f + p.k ≤ length xs) q.chosen q.enough in
-          elim (each-counts b n v u value_is q.list q.is (filter q.test (range_with_len 0 (cloud_count p.f p.k))) low given) [
+          elim (each-counts b n e v u value_is q.list q.is (filter q.test (range_with_len 0 (cloud_count p.f p.k))) low given) [
             | inl old ↦ was-below (served t) key r.stamp old
             | inr counts ↦ absurd (few.1 (enough-picks r.stamp v q.list q.is q.test liars enough counts))
           ]

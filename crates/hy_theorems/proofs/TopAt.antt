@@ -5,17 +5,18 @@ use Rattle.std.proofs.lemmas.Option.{none-some, same_Some}
 use Rattle.std.proofs.lemmas.Bool.{eq-eqb, le-leb, lt-leb, leb-true, both_ways}
 use Rattle.std.proofs.lemmas.Bool.Decides.{nat_tests}
 use Rattle.hy_record.specs.declared.message.MetaAsk.{MetaAsk}
-use Rattle.hy_record.specs.declared.message.MetaAsk.TheVariants as asks
+use Rattle.std.specs.Option.{option_map}
 use Rattle.hy_record.specs.Stamp.{Timestamp, stamp_lt}
 use Rattle.hy_record.specs.Key.{key_eq}
-use Rattle.hy_record.specs.Record.{RecordValue}
-use Rattle.hy_record.proofs.Order.{stamp_le-lt, stamp_lt-le, key_eq-true}
-use Rattle.hy_meta.specs.Service.{stamp_of_record, record_after, record_stamp}
+use Rattle.hy_record.proofs.Order.{stamp_le-lt, stamp_lt-le, key_eq-true, key_eq-same}
+use Rattle.hy_meta.specs.Service.{Attempt, attempt_of, is_expected, applies, stamp_of_record, record_after, record_stamp}
+use Rattle.hy_meta.specs.Run.{IsTried}
+use Rattle.hy_meta.proofs.Lasting.{stamp-is, step-cases, attempt-own, applied-parts}
 use Rattle.hy_meta.proofs.Rising.{cases_bool, both}
 use Rattle.hy_trace.specs.Deeds.{Deed, Joined, Began, Handed, Served, Granted, Stopped, Nothing, served}
-use Rattle.hy_trace.specs.Points.{Update, update_by, update_at, passing, first_update, is_own, overwrites}
+use Rattle.hy_trace.specs.Points.{Update, update_as, update_by, update_at, passing, first_update, is_own, overwrites}
 use Rattle.hy_trace.proofs.Growth.{Le, le-same, le-trans, top, top-rises, or-first, or-cases}
-use Rattle.hy_theorems.proofs.Meaning.{IsAsked, asked-keeps}
+use Rattle.hy_theorems.proofs.Meaning.{IsBy, tried-keeps}
 use Rattle.hy_theorems.proofs.Speaking.{applied-top}
 
 -- the record's timestamp after so many steps
@@ -65,22 +66,28 @@ serves-or-not (Granted ask) t = inr (refl, refl)
 serves-or-not (Stopped c) t = inr (refl, refl)
 serves-or-not Nothing t = inr (refl, refl)
 
--- an update as the service served it: its step, and what the record was before and after
+-- an attempt as the service served it: its step, and what the record was before and after
 pub record IsServedUpdate (t : List Deed) (u : Update) : Type 0 where
-  pub rec : RecordValue
-  pub asked : IsAsked (served t) (asks.Update u.client u.op u.key rec)
-  pub stamp_is : rec.stamp ≡ u.stamp
+  pub attempt : Attempt
+  pub tried : IsTried (served t) attempt
+  pub by : IsBy u.client u.op u.key attempt
+  pub stamp_is : attempt.rec.stamp ≡ u.stamp
   pub some : 1 ≤ u.step
   pub within : u.step ≤ length t
   pub applied : u.is_applied ≡ true → (top_at t u.key u.step ≡ u.stamp) × ((n : ℕ) → n < u.step → stamp_lt (top_at t u.key n) u.stamp ≡ true)
-  pub refused : u.is_applied ≡ false → (n : ℕ) → n + 1 ≡ u.step → Le u.stamp (top_at t u.key n)
+  -- the record had the expected timestamp
+  pub met : u.is_applied ≡ true → (n : ℕ) → n + 1 ≡ u.step → is_expected attempt.expected (top_at t u.key n) ≡ true
+  pub refused : u.is_applied ≡ false → attempt.expected ≡ None → (n : ℕ) → n + 1 ≡ u.step → Le u.stamp (top_at t u.key n)
+  -- the record stayed
+  pub still : u.is_applied ≡ false → (n : ℕ) → n + 1 ≡ u.step → top_at t u.key n ≡ top_at t u.key u.step
 
 served-keeps : (d : Deed) (t : List Deed) (u : Update) → IsServedUpdate t u → IsServedUpdate (d ∷ t) u
 served-keeps d t u is =
     let within = is.within in
     record {
-      rec = is.rec;
-      asked = asked-keeps d t (asks.Update u.client u.op u.key is.rec) is.asked;
+      attempt = is.attempt;
+      tried = tried-keeps d t is.attempt is.tried;
+      by = is.by;
       stamp_is = is.stamp_is;
       some = is.some;
       within = omega (arith, within);
@@ -88,31 +95,37 @@ served-keeps d t u is =
         at-earlier d t u.key u.step within ∙ (is.applied applied).0,
         λ n less. ap (λ (x : Timestamp). stamp_lt x u.stamp) (at-earlier d t u.key n (omega (arith, less, within))) ∙ (is.applied applied).1 n less,
       );
-      refused = λ refused n e. subst (λ (x : Timestamp). Le u.stamp x) (sym (at-earlier d t u.key n (omega (arith, e, within)))) (is.refused refused n e);
+      met = λ applied n e. ap (λ (x : Timestamp). is_expected is.attempt.expected x) (at-earlier d t u.key n (omega (arith, e, within))) ∙ is.met applied n e;
+      refused = λ refused free n e. subst (λ (x : Timestamp). Le u.stamp x) (sym (at-earlier d t u.key n (omega (arith, e, within)))) (is.refused refused free n e);
+      still = λ refused n e. at-earlier d t u.key n (omega (arith, e, within)) ∙ (is.still refused n e ∙ sym (at-earlier d t u.key u.step within));
     }
 
--- the update that a request is
-abbrev pub update_now : ℕ → ℕ → List ℕ → RecordValue → List Deed → Update
-update_now c o k r t = record { client = c; op = o; key = k; stamp = r.stamp; step = length t + 1; is_applied = stamp_lt (record_stamp (served t) k) r.stamp }
-
-served-now : (c o : ℕ) (k : List ℕ) (r : RecordValue) (t : List Deed) → IsServedUpdate (Served (asks.Update c o k r) ∷ t) (update_now c o k r t)
-unfolding served
-served-now c o k r t =
-    let d = Served (asks.Update c o k r) in
+served-now : (ask : MetaAsk) (a : Attempt) (t : List Deed) → attempt_of (served t) ask ≡ Some a → IsServedUpdate (Served ask ∷ t) (update_as t a)
+unfolding served record_stamp
+served-now ask a t is =
+    let d = Served ask in
+    let k = a.key in
+    let earlier : (n : ℕ) → n + 1 ≡ length t + 1 → top_at (d ∷ t) k n ≡ top t k = λ n e. at-earlier d t k n (omega (arith, e)) ∙ at-end t k n (omega (arith, e)) in
     record {
-      rec = r;
-      asked = inl refl;
+      attempt = a;
+      tried = inl is;
+      by = (refl, refl, refl);
       stamp_is = refl;
       some = omega arith;
       within = omega arith;
-      applied = λ above. (
-        at-end (d ∷ t) k (length t + 1) (omega arith) ∙ applied-top (served t) c o k r above,
-        λ n less. ap (λ (x : Timestamp). stamp_lt x r.stamp) (at-earlier d t k n (omega (arith, less))) ∙ stamp_le-lt (top_at t k n) (top t k) r.stamp (at-most t k n) above,
+      applied = λ applied. (
+        at-end (d ∷ t) k (length t + 1) (omega arith) ∙ applied-top ask (served t) a is applied,
+        λ n less. ap (λ (x : Timestamp). stamp_lt x a.rec.stamp) (at-earlier d t k n (omega (arith, less))) ∙ stamp_le-lt (top_at t k n) (top t k) a.rec.stamp (at-most t k n) (applied-parts (record_after (served t) k) a applied).1,
       );
-      refused = λ not_above n e. subst (λ (x : Timestamp). Le r.stamp x) (sym (at-earlier d t k n (omega (arith, e)) ∙ at-end t k n (omega (arith, e)))) not_above;
+      met = λ applied n e. ap (λ (x : Timestamp). is_expected a.expected x) (earlier n e) ∙ (applied-parts (record_after (served t) k) a applied).0;
+      refused = λ refused free n e. subst (λ (x : Timestamp). Le a.rec.stamp x) (sym (earlier n e)) (free_low free refused);
+      still = λ refused n e. earlier n e ∙ sym (at-end (d ∷ t) k (length t + 1) (omega arith) ∙ stamp-is (ask ∷ served t) k (record_after (served t) k) (attempt-own ask (served t) a is ∙ rw refused refl));
     }
+  where
+    free_low : a.expected ≡ None → applies (record_after (served t) a.key) a ≡ false → stamp_lt (stamp_of_record (record_after (served t) a.key)) a.rec.stamp ≡ false
+    free_low free refused = rw free at refused
 
-passing-is : (test : Update → Bool) (o : Option Update) (u : Update) → passing test o ≡ Some u → (o ≡ Some u) × (test u ≡ true)
+pub passing-is : (test : Update → Bool) (o : Option Update) (u : Update) → passing test o ≡ Some u → (o ≡ Some u) × (test u ≡ true)
 passing-is test None u is = absurd (none-some u is)
 passing-is test (Some v) u is =
     elim (cases_bool (test v)) [
@@ -120,12 +133,14 @@ passing-is test (Some v) u is =
       | inr fails ↦ absurd (none-some u (rw fails at is))
     ]
 
+pub mapped-is : (t : List Deed) (o : Option Attempt) (u : Update) → option_map (update_as t) o ≡ Some u → (a : Attempt) × (o ≡ Some a) × (update_as t a ≡ u)
+mapped-is t None u is = absurd (none-some u is)
+mapped-is t (Some a) u is = (a, refl, same_Some (update_as t a) u is)
+
 served-by : (ask : MetaAsk) (t : List Deed) (u : Update) → update_by ask t ≡ Some u → IsServedUpdate (Served ask ∷ t) u
-served-by (asks.Update c o k r) t u is = subst (λ (x : Update). IsServedUpdate (Served (asks.Update c o k r) ∷ t) x) (same_Some (update_now c o k r t) u is) (served-now c o k r t)
-served-by (asks.Read c o k) t u is = absurd (none-some u is)
-served-by (asks.Watch c o k s) t u is = absurd (none-some u is)
-served-by (asks.Olds c o k) t u is = absurd (none-some u is)
-served-by (asks.Forget c o k ss) t u is = absurd (none-some u is)
+served-by ask t u is =
+    let m = mapped-is t (attempt_of (served t) ask) u is in
+    subst (λ (x : Update). IsServedUpdate (Served ask ∷ t) x) m.2 (served-now ask m.0 t m.1)
 
 served-at : (d : Deed) (t : List Deed) (u : Update) → update_at d t ≡ Some u → IsServedUpdate (d ∷ t) u
 served-at d t u is =
@@ -148,25 +163,25 @@ pub first-keeps : (test : Update → Bool) (d : Deed) (t : List Deed) (u : Updat
 unfolding first_update
 first-keeps test d t u is = or-first (first_update test t) (passing test (update_at d t)) u is
 
--- an operation whose update was served has a first one
-pub asked-first : (c o : ℕ) (k : List ℕ) (r : RecordValue) (t : List Deed) → IsAsked (served t) (asks.Update c o k r) → (u : Update) × (first_update (is_own c o) t ≡ Some u)
+-- an operation of which an attempt was served has a first one
+pub tried-first : (a : Attempt) (t : List Deed) → IsTried (served t) a → (u : Update) × (first_update (is_own a.client a.op) t ≡ Some u)
 unfolding served first_update
-asked-first c o k r [] is = absurd is
-asked-first c o k r (Joined ∷ t) is = (let u = asked-first c o k r t is in (u.0, first-keeps (is_own c o) Joined t u.0 u.1))
-asked-first c o k r (Began b n a ∷ t) is = (let u = asked-first c o k r t is in (u.0, first-keeps (is_own c o) (Began b n a) t u.0 u.1))
-asked-first c o k r (Handed b n made cue ∷ t) is = (let u = asked-first c o k r t is in (u.0, first-keeps (is_own c o) (Handed b n made cue) t u.0 u.1))
-asked-first c o k r (Granted ask ∷ t) is = (let u = asked-first c o k r t is in (u.0, first-keeps (is_own c o) (Granted ask) t u.0 u.1))
-asked-first c o k r (Stopped b ∷ t) is = (let u = asked-first c o k r t is in (u.0, first-keeps (is_own c o) (Stopped b) t u.0 u.1))
-asked-first c o k r (Nothing ∷ t) is = (let u = asked-first c o k r t is in (u.0, first-keeps (is_own c o) Nothing t u.0 u.1))
-asked-first c o k r (Served ask ∷ t) (inr later) = (let u = asked-first c o k r t later in (u.0, first-keeps (is_own c o) (Served ask) t u.0 u.1))
-asked-first c o k r (Served ask ∷ t) (inl is) = by_first (first_update (is_own c o) t) refl
+tried-first a [] is = absurd is
+tried-first a (Joined ∷ t) is = (let u = tried-first a t is in (u.0, first-keeps (is_own a.client a.op) Joined t u.0 u.1))
+tried-first a (Began b n x ∷ t) is = (let u = tried-first a t is in (u.0, first-keeps (is_own a.client a.op) (Began b n x) t u.0 u.1))
+tried-first a (Handed b n made cue ∷ t) is = (let u = tried-first a t is in (u.0, first-keeps (is_own a.client a.op) (Handed b n made cue) t u.0 u.1))
+tried-first a (Granted ask ∷ t) is = (let u = tried-first a t is in (u.0, first-keeps (is_own a.client a.op) (Granted ask) t u.0 u.1))
+tried-first a (Stopped b ∷ t) is = (let u = tried-first a t is in (u.0, first-keeps (is_own a.client a.op) (Stopped b) t u.0 u.1))
+tried-first a (Nothing ∷ t) is = (let u = tried-first a t is in (u.0, first-keeps (is_own a.client a.op) Nothing t u.0 u.1))
+tried-first a (Served ask ∷ t) (inr later) = (let u = tried-first a t later in (u.0, first-keeps (is_own a.client a.op) (Served ask) t u.0 u.1))
+tried-first a (Served ask ∷ t) (inl is) = by_first (first_update (is_own a.client a.op) t) refl
   where
-    own : is_own c o (update_now c o k r t) ≡ true
-    own = (let one = eq-eqb c c refl in let two = eq-eqb o o refl in rw (one, two) refl)
+    own : is_own a.client a.op (update_as t a) ≡ true
+    own = (let one = eq-eqb a.client a.client refl in let two = eq-eqb a.op a.op refl in rw (one, two) refl)
 
-    by_first : (f : Option Update) → first_update (is_own c o) t ≡ f → (u : Update) × (first_update (is_own c o) (Served ask ∷ t) ≡ Some u)
-    by_first (Some u) was = (u, first-keeps (is_own c o) (Served ask) t u was)
-    by_first None was = (update_now c o k r t, rw was (ap (λ (x : MetaAsk). passing (is_own c o) (update_by x t)) is ∙ rw own refl))
+    by_first : (f : Option Update) → first_update (is_own a.client a.op) t ≡ f → (u : Update) × (first_update (is_own a.client a.op) (Served ask ∷ t) ≡ Some u)
+    by_first (Some u) was = (u, first-keeps (is_own a.client a.op) (Served ask) t u was)
+    by_first None was = (update_as t a, rw was (ap (λ (o : Option Attempt). passing (is_own a.client a.op) (option_map (update_as t) o)) is ∙ rw own refl))
 
 -- where the record is above a timestamp, a first update made it so
 pub record FirstAbove (t : List Deed) (key : List ℕ) (s : Timestamp) : Type 0 where
@@ -193,22 +208,18 @@ first-passes t key s u is =
     let here : top_at t key u.step ≡ u.stamp = ap (λ (k : List ℕ). top_at t k u.step) (sym parts.1) ∙ (f.0.applied parts.0).0 in
     stamp_lt-le s u.stamp (top t key) parts.2 (subst (λ (x : Timestamp). Le x (top t key)) here (at-most t key u.step))
 
--- an update that takes the record past a timestamp overwrites it
+-- an attempt that takes the record past a timestamp overwrites it
 passes-here : (ask : MetaAsk) (t : List Deed) (key : List ℕ) (s : Timestamp) → stamp_lt s (top t key) ≡ false → stamp_lt s (top (Served ask ∷ t) key) ≡ true → (u : Update) × (update_by ask t ≡ Some u) × (u.step ≡ length t + 1) × (overwrites key s u ≡ true)
-unfolding served record_stamp record_after
-passes-here (asks.Read c o k) t key s low high = absurd (both_ways (stamp_lt s (top t key)) low high)
-passes-here (asks.Watch c o k x) t key s low high = absurd (both_ways (stamp_lt s (top t key)) low high)
-passes-here (asks.Olds c o k) t key s low high = absurd (both_ways (stamp_lt s (top t key)) low high)
-passes-here (asks.Forget c o k ss) t key s low high = absurd (both_ways (stamp_lt s (top t key)) low high)
-passes-here (asks.Update c o k r) t key s low high =
-    elim (cases_bool (key_eq k key && stamp_lt (stamp_of_record (record_after (served t) key)) r.stamp)) [
-      | inr refused ↦ absurd (both_ways (stamp_lt s (top t key)) low (rw refused at high))
-      | inl applied ↦
-          let tests = both (key_eq k key) (stamp_lt (stamp_of_record (record_after (served t) key)) r.stamp) applied in
-          let own : stamp_lt (record_stamp (served t) k) r.stamp ≡ true = ap (λ (x : List ℕ). stamp_lt (record_stamp (served t) x) r.stamp) (key_eq-true k key tests.0) ∙ tests.1 in
-          let above : stamp_lt s r.stamp ≡ true = rw applied at high in
-          let one = tests.0 in
-          (update_now c o k r t, refl, refl, rw (own, one, above) refl)
+unfolding served
+passes-here ask t key s low high =
+    elim (step-cases ask (served t) key) [
+      | inl same ↦ absurd (both_ways (stamp_lt s (top t key)) low (ap (stamp_lt s) (sym (stamp-is (ask ∷ served t) key (record_after (served t) key) same ∙ sym (stamp-is (served t) key (record_after (served t) key) refl))) ∙ high))
+      | inr raises ↦
+          let a = raises.attempt in
+          let above : stamp_lt s a.rec.stamp ≡ true = ap (stamp_lt s) (sym raises.stamp_is) ∙ high in
+          let own : key_eq a.key key ≡ true = ap (λ (x : List ℕ). key_eq x key) raises.key_is ∙ key_eq-same key in
+          let applied = raises.applied in
+          (update_as t a, ap (option_map (update_as t)) raises.is, refl, rw (applied, own, above) refl)
     ]
 
 pub first-above : (t : List Deed) (key : List ℕ) (s : Timestamp) → stamp_lt s (top t key) ≡ true → FirstAbove t key s

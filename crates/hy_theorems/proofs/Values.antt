@@ -8,7 +8,7 @@ use Rattle.std.proofs.lemmas.Bool.{eqb-true, lt-ltb}
 use Rattle.std.proofs.lemmas.List.{length-take-le}
 use Rattle.std.proofs.lemmas.Slice.Eq.{bytes_eq-Decides}
 use Rattle.sha2.specs.Sha256.{sha256}
-use Rattle.hy_record.specs.declared.action.Action.TheVariants as asked
+use Rattle.hy_protocol.specs.Operations.{value_of}
 use Rattle.hy_record.specs.Stamp.{Timestamp, stamp_eq, stamp_lt}
 use Rattle.hy_base.specs.Shape.{IsShape, cloud_count, fragment_size}
 use Rattle.hy_record.specs.Record.{RecordValue, hash_of}
@@ -122,7 +122,7 @@ is-hash None h bytes is test = absurd (none-some h is)
 is-hash (Some g) h bytes is test = sym (same_Some g h is) ∙ (bytes_eq-Decides g (sha256 bytes)).0 test
 
 -- a valid answer under the record of a put is the fragment of its value
-module _ (p : Params) (t : List Deed) (shape : IsShape p.f p.k) (free : IsCollisionFree p t) (b n : ℕ) (s : Start) (began : start_of b n t ≡ Some s) (key v : List ℕ) (action_is : s.action ≡ asked.Put key v) (x : Timestamp) (list : List ℕ) where
+module _ (p : Params) (t : List Deed) (shape : IsShape p.f p.k) (free : IsCollisionFree p t) (b n : ℕ) (s : Start) (began : start_of b n t ≡ Some s) (v : List ℕ) (stores : value_of s.action ≡ Some v) (x : Timestamp) (list : List ℕ) where
   abbrev pub rec : RecordValue
   rec = value_record x v p.f p.k list
 
@@ -135,7 +135,7 @@ module _ (p : Params) (t : List Deed) (shape : IsShape p.f p.k) (free : IsCollis
   valid-fragment c o cloud bytes within valid =
       let tests = both (not (is_tombstone rec.kind) && nat_lt cloud (cloud_count rec.f rec.k) && (length bytes == fragment_size rec.size rec.k)) (is_hash (hash_of rec cloud) bytes) valid.valid in
       let hash : sha256 (fragment_of v p.k cloud) ≡ sha256 bytes = is-hash (hash_of rec cloud) (sha256 (fragment_of v p.k cloud)) bytes (hash-of x v p.f p.k list cloud shape within) tests.1 in
-      let put : IsHashed p t (fragment_of v p.k cloud) = inl (record { client = b; op = n; start = s; began = began; key = key; value = v; action_is = action_is; cloud = cloud; within = within; is = refl }) in
+      let put : IsHashed p t (fragment_of v p.k cloud) = inl (record { client = b; op = n; start = s; began = began; value = v; stores = stores; cloud = cloud; within = within; is = refl }) in
       let got : IsHashed p t bytes = inr (record { client = c; op = o; reply = valid.reply; input = valid.input; body = valid.body }) in
       sym (free (fragment_of v p.k cloud) bytes put got hash)
 
@@ -203,7 +203,7 @@ rebuilt-is v k n picks elements low high few all rising enough =
     })
 
 -- what a read rebuilds under the record of a put is the value
-module _ (p : Params) (t : List Deed) (shape : IsShape p.f p.k) (free : IsCollisionFree p t) (b n : ℕ) (s : Start) (began : start_of b n t ≡ Some s) (key v : List ℕ) (action_is : s.action ≡ asked.Put key v) (elements : AreElements IsElement v) (x : Timestamp) (list : List ℕ) (c o : ℕ) (inputs : List Cue) (handed : (cue : Cue) → IsInput inputs cue → IsInput (inputs_of c o t) cue) (w : Version) (is : version_of inputs ≡ Some w) where
+module _ (p : Params) (t : List Deed) (shape : IsShape p.f p.k) (free : IsCollisionFree p t) (b n : ℕ) (s : Start) (began : start_of b n t ≡ Some s) (v : List ℕ) (stores : value_of s.action ≡ Some v) (elements : AreElements IsElement v) (x : Timestamp) (list : List ℕ) (c o : ℕ) (inputs : List Cue) (handed : (cue : Cue) → IsInput inputs cue → IsInput (inputs_of c o t) cue) (w : Version) (is : version_of inputs ≡ Some w) where
   picks-are : AllByRecursion (IsPickOf v p.k (cloud_count p.f p.k)) (valid_picks (value_record x v p.f p.k list) w.since)
   unfolding valid_picks value_record
   picks-are =
@@ -211,7 +211,7 @@ module _ (p : Params) (t : List Deed) (shape : IsShape p.f p.k) (free : IsCollis
       (λ cloud bytes low high first. (
       let within : cloud < cloud_count p.f p.k = omega (arith, high) in
       let valid = first-valid (value_record x v p.f p.k list) cloud w.since bytes first in
-      (within, valid-fragment p t shape free b n s began key v action_is x list c o cloud bytes within (record { reply = valid.reply; input = handed (cues.Cloud valid.reply) (since-inputs inputs w (cues.Cloud valid.reply) is valid.input); body = valid.body; valid = valid.valid }))))
+      (within, valid-fragment p t shape free b n s began v stores x list c o cloud bytes within (record { reply = valid.reply; input = handed (cues.Cloud valid.reply) (since-inputs inputs w (cues.Cloud valid.reply) is valid.input); body = valid.body; valid = valid.valid }))))
 
   picks-rise : AreRising 0 (valid_picks (value_record x v p.f p.k list) w.since)
   unfolding valid_picks value_record

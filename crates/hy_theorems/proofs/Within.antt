@@ -5,62 +5,30 @@ use Rattle.std.specs.Option.{option_map}
 use Rattle.std.specs.List.{AllByRecursion}
 use Rattle.std.proofs.lemmas.Option.{none-some, same_Some}
 use Rattle.std.proofs.lemmas.Bool.{both_ways, leb-true, leb-false}
-use Rattle.hy_record.specs.declared.action.Action.{Action}
-use Rattle.hy_record.specs.declared.action.Action.TheVariants as asked
 use Rattle.hy_record.specs.declared.action.Reply.{Reply}
-use Rattle.hy_record.specs.declared.action.Reply.TheVariants as told
 use Rattle.hy_record.specs.Stamp.{Timestamp, stamp_lt}
 use Rattle.hy_record.proofs.Order.{stamp_le-lt, stamp_lt-same, stamp_lt-trans}
-use Rattle.hy_meta.specs.Service.{record_stamp}
 use Rattle.hy_meta.proofs.Rising.{cases_bool}
-use Rattle.hy_protocol.specs.Operations.{key_of, write_plan, replied}
+use Rattle.hy_protocol.specs.Operations.{key_of}
 use Rattle.hy_protocol.specs.Progress.{progress_of}
-use Rattle.hy_protocol.specs.Write.{write_reply}
 use Rattle.hy_order.specs.declared.operation.Operation.{Operation}
-use Rattle.hy_trace.specs.Deeds.{Params, Deed, Joined, Began, Handed, Served, Granted, Stopped, Nothing, Start, served, start_of, start_at, reply_of, inputs_of}
+use Rattle.hy_trace.specs.Deeds.{Params, Deed, Start, start_of, reply_of, inputs_of}
 use Rattle.hy_trace.specs.Trace.{IsTrace}
 use Rattle.hy_trace.specs.History.{Return, return_of, Begun, begun_of, end_of}
-use Rattle.hy_trace.specs.Points.{Point}
 use Rattle.hy_trace.specs.Order.{Mark, mark_of, marks_of}
-use Rattle.hy_trace.proofs.Growth.{Le, top, or-cases, start-now, start-keeps, start-same}
+use Rattle.hy_trace.proofs.Growth.{Le, top, or-cases, start-keeps}
 use Rattle.hy_trace.proofs.Steps.{has-replied}
 use Rattle.hy_theorems.specs.Within.{ReturnsFrom, IsWithin}
 use Rattle.hy_theorems.proofs.Invariant.{IsCovered, trace-holds}
-use Rattle.hy_theorems.proofs.Apart.{own-above, replied-write}
+use Rattle.hy_theorems.proofs.Apart.{own-above}
 use Rattle.hy_theorems.proofs.RealTime.{return-reply, returned-within}
-use Rattle.hy_theorems.proofs.Points.{point-timely}
 use Rattle.hy_theorems.proofs.Beginnings.{begun-are}
-use Rattle.hy_theorems.proofs.Marks.{write-done, IsWriteMark, IsMarkOf, mark-is, mark-writing}
+use Rattle.hy_theorems.proofs.Verdicts.{at-start}
+use Rattle.hy_theorems.proofs.Marks.{IsWriteMark, IsMarkOf, mark-is, mark-writing, mark-covered}
 use Rattle.hy_theorems.proofs.Linear.{picked}
 use Rattle.hy_theorems.proofs.TopAt.{top_at, at-end, at-earlier, at-rises}
 use Rattle.hy_theorems.proofs.Overwritten.{IsWrittenAt}
-use Rattle.hy_theorems.proofs.Placed.{written}
-
--- a deed that begins an operation serves nothing
-begins-quiet : (c o : ℕ) (d : Deed) (t : List Deed) (s : Start) → start_at c o d t ≡ Some s → served (d ∷ t) ≡ served t
-unfolding served
-begins-quiet c o (Began b n a) t s is = refl
-begins-quiet c o Joined t s is = refl
-begins-quiet c o (Handed b n made cue) t s is = refl
-begins-quiet c o (Served ask) t s is = absurd (none-some s is)
-begins-quiet c o (Granted ask) t s is = refl
-begins-quiet c o (Stopped b) t s is = refl
-begins-quiet c o Nothing t s is = refl
-
--- the record at the step of an invocation is that before it
-at-start : (c o : ℕ) (t : List Deed) (s : Start) (key : List ℕ) → start_of c o t ≡ Some s → (length s.before + 1 ≤ length t) × (top_at t key (length s.before + 1) ≡ top s.before key)
-unfolding start_of
-at-start c o [] s key began = absurd (none-some s began)
-at-start c o (d ∷ t) s key began =
-    elim (or-cases (start_of c o t) (start_at c o d t) s began) [
-      | inl was ↦ (let before = at-start c o t s key was in let within = before.0 in (omega (arith, within), at-earlier d t key (length s.before + 1) within ∙ before.1))
-      | inr now ↦
-          let same = start-now c o d t s now.1 in
-          let count = ap (λ (x : List Deed). length x) same in (
-            omega (arith, count),
-            at-end (d ∷ t) key (length s.before + 1) (omega (arith, count)) ∙ (ap (λ (x : List _). record_stamp x key) (begins-quiet c o d t s now.1) ∙ ap (λ (x : List Deed). top x key) (sym same)),
-          )
-    ]
+use Rattle.hy_theorems.proofs.Cells.{written}
 
 -- at the step of a return the record is not below what was replied
 at-return : (p : Params) (c o : ℕ) (t : List Deed) (s : Start) (r : Return) → IsTrace p t → start_of c o t ≡ Some s → return_of p c o t ≡ Some r → IsCovered r.reply (top_at t (key_of s.action) r.at)
@@ -108,13 +76,8 @@ module _ (p : Params) (t : List Deed) (trace : IsTrace p t) (key : List ℕ) whe
       elim (cases_bool (nat_le m.point.step r.at)) [
         | inl within ↦ leb-true m.point.step r.at within
         | inr late ↦
-            let inputs = inputs_of b.client b.op t in
-            let h = return-reply p b.client b.op t r trace returned in
-            let same : h.start ≡ b.start = start-same b.client b.op t h.start b.start h.began of.began in
-            let replies : write_reply (write_plan p.f p.k b.client b.op key w.value) inputs ≡ Some r.reply = sym (replied-write p b.client b.op key w.value inputs) ∙ (ap (λ (a : Action). replied p.f p.k b.client b.op a inputs) (sym (ap (λ (s : Start). s.action) same ∙ w.action_is)) ∙ h.replies) in
-            let done : told.Done m.stamp ≡ r.reply = write-done (write_plan p.f p.k b.client b.op key w.value) inputs m.stamp r.reply w.own replies in
             let covered : IsCovered r.reply (top_at t key r.at) = subst (λ (k : List ℕ). IsCovered r.reply (top_at t k r.at)) of.key_is (at-return p b.client b.op t b.start r trace of.began returned) in
-            let above : Le m.stamp (top_at t key r.at) = subst (λ (x : Reply). IsCovered x (top_at t key r.at)) (sym done) covered in
+            let above : Le m.stamp (top_at t key r.at) = mark-covered p t trace key b m r (top_at t key r.at) of returned covered in
             absurd (both_ways (stamp_lt (top_at t key r.at) m.stamp) above (at.below r.at (leb-false m.point.step r.at late)))
       ]
 
@@ -139,14 +102,12 @@ module _ (p : Params) (t : List Deed) (trace : IsTrace p t) (key : List ℕ) whe
               returned = end-from b m of (λ r returned. written-returned b m r of write at returned);
             }
         | inr read ↦
-            let made = ap (λ (x : Point). x.step) read.point_is in
-            let timely = point-timely p t trace b.client b.op b.start read.ret of.began (read.action_is ∙ ap asked.Get (sym of.key_is)) read.returned in
-            let after = timely.0 in
-            let before = timely.1 in
+            let after = read.late in
+            let before = read.early in
             record {
-              invoked = omega (arith, invoked, made, after);
-              later = λ is. absurd (both_ways true (sym is ∙ ap (λ (x : Point). x.is_just_before) read.point_is) refl);
-              returned = end-from b m of (λ r returned. (let same = ap (λ (x : Return). x.at) (same_Some read.ret r (sym read.returned ∙ returned)) in omega (arith, made, before, same)));
+              invoked = omega (arith, invoked, after);
+              later = λ is. absurd (both_ways m.point.is_just_before read.side is);
+              returned = end-from b m of (λ r returned. (let same = ap (λ (x : Return). x.at) (same_Some read.ret r (sym read.returned ∙ returned)) in omega (arith, before, same)));
             }
       ]
 

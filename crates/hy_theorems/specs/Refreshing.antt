@@ -16,6 +16,7 @@ is_read (asks.Update c o k r) = false
 is_read (asks.Watch c o k s) = false
 is_read (asks.Olds c o k) = false
 is_read (asks.Forget c o k ss) = false
+is_read (asks.Swap c o k e r) = false
 
 abbrev pub asks_for_record : Out → Bool
 asks_for_record (outs.Meta ask) = is_read ask

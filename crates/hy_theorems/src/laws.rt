@@ -12,7 +12,7 @@ ghost use Rattle.hy_protocol.specs.declared.plan.GetPlan.{GetPlan};
 ghost use Rattle.hy_protocol.specs.Read.{refresh_count};
 ghost use Rattle.hy_order.specs.History.{IsHistory};
 ghost use Rattle.hy_order.specs.declared.held.Held.{Held};
-ghost use Rattle.hy_order.specs.Linearization.{RespectsRealTime, ReadsRegister, IsLinearization, IsReportLinearizable};
+ghost use Rattle.hy_order.specs.Linearization.{RespectsRealTime, no_register, ReadsRegister, IsLinearization, IsReportLinearizable};
 ghost use Rattle.hy_trace.specs.declared.step.Step.{Step};
 ghost use Rattle.hy_trace.specs.Deeds.{Params, Start, served, inputs_of};
 ghost use Rattle.hy_trace.specs.Messages.{IsSent};
@@ -62,11 +62,12 @@ pub fn orders_respect_real_time()
     ensures { (p : Params) (schedule : List Step) (key : List ℕ) → RespectsRealTime (operations_in_order p (trace_of p schedule) key) }
 {}
 
-/// Where no two strings that were hashed collide, each get answers what the last write before it in the order left.
+/// Where no two strings that were hashed collide, each get answers what the last write before it in the order left,
+/// and each swap tells the timestamp of that write: it expected it, or replied it.
 pub fn reads_find_the_last_write()
     ensures { (p : Params) (schedule : List Step) (key : List ℕ) →
         let t = trace_of p schedule in
-        IsShape p.f p.k → IsCollisionFree p t → ArePutBytes t → ReadsRegister None (operations_in_order p t key) }
+        IsShape p.f p.k → IsCollisionFree p t → ArePutBytes t → ReadsRegister no_register (operations_in_order p t key) }
 {}
 
 /// The operations of a schedule are a history: numbered from 1, each with an end that its action can have.

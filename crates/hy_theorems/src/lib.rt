@@ -1,6 +1,20 @@
-//! What holds of every schedule: that its report is linearizable, and that what its report tells of is held.
+//! What holds of every schedule of deliveries, losses, repeats, timeouts, crashes and forged answers, in
+//! stores of every shape.
 //!
-//! Each law is a function with an empty body. Its contract is the law.
+//! Each law is a function with an empty body. Its contract is the law (`laws.rt`).
+//!
+//! Where no two different strings that were hashed share a SHA-256 hash, the report is linearizable, with
+//! any number of Byzantine clouds, over puts, gets, deletes and swaps (`reports_are_linearizable`; key by
+//! key `orders_are_linearizations`). The order is stated by points, each within its operation
+//! (`points_lie_within_operations`), and is the order by timestamps (`orders_stand_by_stamp`).
+//!
+//! With at most f Byzantine clouds the current version of each key can be rebuilt from k honest ones,
+//! whatever was collected (`current_versions_stay_retrievable`, `reported_copies_are_enough`), and a get
+//! that all honest clouds of its version answered in vain follows a superseded version
+//! (`starved_reads_are_superseded`). With any number of them a get refreshes at most once for each update
+//! or swap that was applied since it began (`refreshes_are_bounded_by_updates`), and a collector deletes
+//! superseded versions only (`deletions_are_superseded`). Each premise is met by a worked schedule
+//! (`premises_are_met`).
 #![tactic(auto)]
 
 mod laws;

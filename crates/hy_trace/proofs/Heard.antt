@@ -4,6 +4,8 @@ use Rattle.std.specs.Prelude.{◌&&◌, ◌==◌, ◌⊎◌}
 use Rattle.std.proofs.lemmas.Option.{none-some, same_Some}
 use Rattle.std.proofs.lemmas.Bool.{false≢true, eqb-true}
 use Rattle.hy_record.specs.declared.message.MetaSay.TheVariants as says
+use Rattle.hy_record.specs.declared.action.Reply.{Reply}
+use Rattle.hy_record.specs.declared.action.Reply.TheVariants as told
 use Rattle.hy_record.specs.Stamp.{Timestamp, stamp_lt}
 use Rattle.hy_record.specs.Key.{key_eq}
 use Rattle.hy_record.specs.Record.{RecordValue}
@@ -14,6 +16,7 @@ use Rattle.hy_record.specs.declared.turn.Cue.{Cue}
 use Rattle.hy_record.specs.declared.turn.Cue.TheVariants as cues
 use Rattle.hy_protocol.specs.Inputs.{addresses, has_of, is_update_answer, is_fired, olds_of}
 use Rattle.hy_protocol.specs.Write.{first_has}
+use Rattle.hy_protocol.specs.Swap.{answered_by}
 use Rattle.hy_protocol.specs.Read.{Version, version_of, newer_version}
 use Rattle.hy_protocol.specs.Collect.{first_olds}
 use Rattle.hy_trace.specs.Deeds.{Params, Deed, Start, inputs_of, start_of}
@@ -30,7 +33,7 @@ sent-keeps p d t m sent = inr sent
 pub delivered-keeps : (p : Params) (d : Deed) (t : List Deed) (cue : Cue) → IsDelivered p t cue → IsDelivered p (d ∷ t) cue
 delivered-keeps p d t (cues.Meta say) sent = sent-keeps p d t (Say say) sent
 delivered-keeps p d t (cues.Cloud reply) (inl sent) = inl (sent-keeps p d t (Answer reply) sent)
-delivered-keeps p d t (cues.Cloud reply) (inr liar) = inr liar
+delivered-keeps p d t (cues.Cloud reply) (inr other) = inr other
 delivered-keeps p d t cues.Tick sent = tt
 
 -- the operation began, and was handed an input of its own
@@ -124,6 +127,8 @@ said-has p t c o key (cues.Meta (says.Kept b n k s)) r tells own sent = absurd (
 said-has p t c o key (cues.Meta (says.Fired b n k s)) r tells own sent = absurd (none-some r tells)
 said-has p t c o key (cues.Meta (says.OldList b n k ss)) r tells own sent = absurd (none-some r tells)
 said-has p t c o key (cues.Meta (says.Forgot b n k)) r tells own sent = absurd (none-some r tells)
+said-has p t c o key (cues.Meta (says.Swapped b n k s)) r tells own sent = absurd (none-some r tells)
+said-has p t c o key (cues.Meta (says.Changed b n k s)) r tells own sent = absurd (none-some r tells)
 said-has p t c o key (cues.Cloud reply) r tells own sent = absurd (none-some r tells)
 said-has p t c o key cues.Tick r tells own sent = absurd (none-some r tells)
 
@@ -136,6 +141,8 @@ said-olds p t c o key (cues.Meta (says.Applied b n k s)) ss tells own sent = abs
 said-olds p t c o key (cues.Meta (says.Kept b n k s)) ss tells own sent = absurd (none-some ss tells)
 said-olds p t c o key (cues.Meta (says.Fired b n k s)) ss tells own sent = absurd (none-some ss tells)
 said-olds p t c o key (cues.Meta (says.Forgot b n k)) ss tells own sent = absurd (none-some ss tells)
+said-olds p t c o key (cues.Meta (says.Swapped b n k s)) ss tells own sent = absurd (none-some ss tells)
+said-olds p t c o key (cues.Meta (says.Changed b n k s)) ss tells own sent = absurd (none-some ss tells)
 said-olds p t c o key (cues.Cloud reply) ss tells own sent = absurd (none-some ss tells)
 said-olds p t c o key cues.Tick ss tells own sent = absurd (none-some ss tells)
 
@@ -149,6 +156,8 @@ said-answer p t c o key (cues.Meta (says.Has b n k r)) is own sent = absurd (fal
 said-answer p t c o key (cues.Meta (says.Fired b n k s)) is own sent = absurd (false≢true is)
 said-answer p t c o key (cues.Meta (says.OldList b n k ss)) is own sent = absurd (false≢true is)
 said-answer p t c o key (cues.Meta (says.Forgot b n k)) is own sent = absurd (false≢true is)
+said-answer p t c o key (cues.Meta (says.Swapped b n k s)) is own sent = absurd (false≢true is)
+said-answer p t c o key (cues.Meta (says.Changed b n k s)) is own sent = absurd (false≢true is)
 said-answer p t c o key (cues.Cloud reply) is own sent = absurd (false≢true is)
 said-answer p t c o key cues.Tick is own sent = absurd (false≢true is)
 
@@ -161,5 +170,22 @@ said-fired p t c o key (cues.Meta (says.Applied b n k q)) s is own sent = absurd
 said-fired p t c o key (cues.Meta (says.Kept b n k q)) s is own sent = absurd (false≢true is)
 said-fired p t c o key (cues.Meta (says.OldList b n k ss)) s is own sent = absurd (false≢true is)
 said-fired p t c o key (cues.Meta (says.Forgot b n k)) s is own sent = absurd (false≢true is)
+said-fired p t c o key (cues.Meta (says.Swapped b n k q)) s is own sent = absurd (false≢true is)
+said-fired p t c o key (cues.Meta (says.Changed b n k q)) s is own sent = absurd (false≢true is)
 said-fired p t c o key (cues.Cloud reply) s is own sent = absurd (false≢true is)
 said-fired p t c o key cues.Tick s is own sent = absurd (false≢true is)
+
+-- an answer to the swap of a record was said to its operation: that it was swapped, or what another record it found
+pub said-verdict : (p : Params) (t : List Deed) (c o : ℕ) (key : List ℕ) (cue : Cue) (r : RecordValue) (reply : Reply) → answered_by (Some r) cue ≡ Some reply → addresses c o key cue ≡ true → IsDelivered p t cue →
+    (s : Timestamp) × ((IsSent p t (Say (says.Swapped c o key s)) × (told.Swapped r.stamp ≡ reply)) ⊎ (IsSent p t (Say (says.Changed c o key s)) × (told.Changed s ≡ reply)))
+unfolding addresses
+said-verdict p t c o key (cues.Meta (says.Swapped b n k s)) r reply is own sent = (s, inl (same-name b c n o k key (λ x y z. IsSent p t (Say (says.Swapped x y z s))) own sent, same_Some (told.Swapped r.stamp) reply is))
+said-verdict p t c o key (cues.Meta (says.Changed b n k s)) r reply is own sent = (s, inr (same-name b c n o k key (λ x y z. IsSent p t (Say (says.Changed x y z s))) own sent, same_Some (told.Changed s) reply is))
+said-verdict p t c o key (cues.Meta (says.Has b n k h)) r reply is own sent = absurd (none-some reply is)
+said-verdict p t c o key (cues.Meta (says.Applied b n k s)) r reply is own sent = absurd (none-some reply is)
+said-verdict p t c o key (cues.Meta (says.Kept b n k s)) r reply is own sent = absurd (none-some reply is)
+said-verdict p t c o key (cues.Meta (says.Fired b n k s)) r reply is own sent = absurd (none-some reply is)
+said-verdict p t c o key (cues.Meta (says.OldList b n k ss)) r reply is own sent = absurd (none-some reply is)
+said-verdict p t c o key (cues.Meta (says.Forgot b n k)) r reply is own sent = absurd (none-some reply is)
+said-verdict p t c o key (cues.Cloud answer) r reply is own sent = absurd (none-some reply is)
+said-verdict p t c o key cues.Tick r reply is own sent = absurd (none-some reply is)

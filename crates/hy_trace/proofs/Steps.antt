@@ -18,7 +18,8 @@ use Rattle.hy_protocol.specs.Read.{read_reply}
 use Rattle.hy_protocol.specs.Collect.{collect_reply}
 use Rattle.hy_trace.specs.Deeds.{Params, Deed, Joined, Began, Handed, Served, Granted, Stopped, Nothing, Start, inputs_of, start_of, start_at, reply_of, reply_after, joined, begun, is_up}
 use Rattle.hy_trace.specs.Messages.{Message, Ask, Say, Request, Answer, messages_of, message_at, sent_at, IsAmong, IsSent, IsSentAt, step_of}
-use Rattle.hy_protocol.specs.Operations.{key_of, replied}
+use Rattle.hy_protocol.specs.Swap.{swap_reply}
+use Rattle.hy_protocol.specs.Operations.{key_of, suits, replied}
 use Rattle.hy_trace.specs.Trace.{IsMade, IsDelivered, IsIdle, Fits, IsTrace}
 use Rattle.hy_trace.specs.Schedule.{awaited, hand, is_free, client_of, delivery, deed_of, trace_of}
 use Rattle.hy_trace.proofs.Growth.{or-none, or-first, or-cases, some-is, inputs-step, start-keeps}
@@ -65,7 +66,8 @@ message-sent p t number m is =
 -- operations and their numbers
 
 pub replied-keeps : (p : Params) (c o : ℕ) (a : Action) (cue : Cue) (before : List Cue) (r : Reply) → replied p.f p.k c o a before ≡ Some r → replied p.f p.k c o a (cue ∷ before) ≡ Some r
-unfolding replied write_reply read_reply collect_reply
+unfolding replied write_reply read_reply collect_reply swap_reply
+replied-keeps p c o (asked.Swap key expected v) cue before r is = or-first _ _ r is
 replied-keeps p c o (asked.Put key v) cue before r is = or-first _ _ r is
 replied-keeps p c o (asked.Delete key) cue before r is = or-first _ _ r is
 replied-keeps p c o (asked.Get key) cue before r is = or-first _ _ r is
@@ -135,8 +137,8 @@ start-cases c o b n a t s is =
           inr (eqb-true c b tests.0, eqb-true o n tests.1)
     ]
 
-began-numbered : (p : Params) (c o : ℕ) (a : Action) (t : List Deed) → IsIdle p c o t → AreNumbered p t → AreNumbered p (Began c o a ∷ t)
-began-numbered p c o a t idle n = record {
+began-numbered : (p : Params) (c o : ℕ) (a : Action) (t : List Deed) → Fits p t (Began c o a) → AreNumbered p t → AreNumbered p (Began c o a ∷ t)
+began-numbered p c o a t fits n = record {
   range = λ b m s is. in_range b m s (start-cases c o b m a t s is);
   past = λ b m is apart. (let s = some-is (start_of b m (Began c o a ∷ t)) is in replies b m s.0 (start-cases c o b m a t s.0 s.1) apart);
 }
@@ -150,20 +152,20 @@ began-numbered p c o a t idle n = record {
     in_range : (b m : ℕ) (s : Start) → (start_of b m t ≡ Some s) ⊎ ((c ≡ b) × (o ≡ m)) → (1 ≤ m) × (m ≤ begun b (Began c o a ∷ t))
     in_range b m s (inl was) = let r = n.range b m s was in let grows = more b in (r.0, omega (arith, r.1, grows))
     in_range b m s (inr new) =
-        let number = idle.number in
+        let number = fits.0.number in
         let count = began-count c o a t in
         let at_own : (1 ≤ o) × (o ≤ begun c (Began c o a ∷ t)) = (omega (arith, number), omega (arith, number, count)) in
         subst (λ (x : ℕ). (1 ≤ m) × (m ≤ begun x (Began c o a ∷ t))) new.0 (subst (λ (y : ℕ). (1 ≤ y) × (y ≤ begun c (Began c o a ∷ t))) new.1 at_own)
 
     replies : (b m : ℕ) (s : Start) → (start_of b m t ≡ Some s) ⊎ ((c ≡ b) × (o ≡ m)) → m ≢ begun b (Began c o a ∷ t) → is_some (reply_of p b m (Began c o a ∷ t)) ≡ true
-    replies b m s (inr new) apart = let number = idle.number in let count = began-count c o a t in absurd (apart (sym new.1 ∙ (omega (arith, number, count) ∙ ap (λ (x : ℕ). begun x (Began c o a ∷ t)) new.0)))
+    replies b m s (inr new) apart = let number = fits.0.number in let count = began-count c o a t in absurd (apart (sym new.1 ∙ (omega (arith, number, count) ∙ ap (λ (x : ℕ). begun x (Began c o a ∷ t)) new.0)))
     replies b m s (inl was) apart =
-        reply-keeps p b m (Began c o a) t idle
+        reply-keeps p b m (Began c o a) t fits
         (elim (cases_bool (c == b)) [
           | inl same ↦
               let e : c ≡ b = eqb-true c b same in
               let here : start_of c m t ≡ Some s = ap (λ (x : ℕ). start_of x m t) e ∙ was in
-              subst (λ (x : ℕ). is_some (reply_of p x m t) ≡ true) e (idle.settled m (λ (is : o ≡ m). none-some s (sym idle.fresh ∙ (ap (λ (y : ℕ). start_of c y t) is ∙ here))) (ap is_some here))
+              subst (λ (x : ℕ). is_some (reply_of p x m t) ≡ true) e (fits.0.settled m (λ (is : o ≡ m). none-some s (sym fits.0.fresh ∙ (ap (λ (y : ℕ). start_of c y t) is ∙ here))) (ap is_some here))
           | inr other ↦ n.past b m (ap is_some was) (λ e. apart (e ∙ sym (began-other c o b a t other)))
         ])
 
@@ -265,9 +267,9 @@ delivery-fits p t w (Some (Answer reply)) sent = hand-fits p reply.client w (cue
 pub deed-fits : (p : Params) (step : Step) (t : List Deed) → IsTrace p t → Fits p t (deed_of p step t)
 unfolding deed_of
 deed-fits p steps.Join t trace = fits-either p t (nat_lt (joined t) MAX_SESSIONS) Joined Nothing (λ is. tt) tt
-deed-fits p (steps.Invoke client action) t trace = fits-either p t (is_free p client t) (Began client (begun client t + 1) action) Nothing (λ free. free-idle p client t trace free) tt
+deed-fits p (steps.Invoke client action) t trace = fits-either p t (is_free p client t && suits action) (Began client (begun client t + 1) action) Nothing (λ tests. (let parts = both (is_free p client t) (suits action) tests in (free-idle p client t trace parts.0, parts.1))) tt
 deed-fits p (steps.Give number) t trace = delivery-fits p t (step_of p number t) (message_at number (messages_of p t)) (λ m is. message-sent p t number m is)
-deed-fits p (steps.Lie reply) t trace = fits-either p t (p.is_liar reply.cloud) (hand p reply.client 0 (cues.Cloud reply) t) Nothing (λ liar. hand-fits p reply.client 0 (cues.Cloud reply) t (inr liar) tt) tt
+deed-fits p (steps.Lie reply) t trace = fits-either p t (p.is_liar reply.cloud) (hand p reply.client 0 (cues.Cloud reply) t) Nothing (λ liar. hand-fits p reply.client 0 (cues.Cloud reply) t (inr (inl liar)) tt) tt
 deed-fits p (steps.Tick client) t trace = hand-fits p client 0 cues.Tick t tt tt
 deed-fits p (steps.Stop client) t trace = fits-either p t (nat_le 1 client && nat_le client (joined t)) (Stopped client) Nothing (λ is. tt) tt
 

@@ -1,6 +1,7 @@
 -- An operation that is run to its end: its invocation, and then the delivery of each message that is sent from then on, until it replies.
 use Rattle.std.specs.Prelude.{ℕ, zero, suc, ◌+◌, Bool, ◌&&◌, not, nat_le, List, ◌∷◌, length, is_some, if◌then◌else◌}
 use Rattle.hy_record.specs.declared.action.Action.{Action}
+use Rattle.hy_protocol.specs.Operations.{suits}
 use Rattle.hy_trace.specs.declared.step.Step.{Step}
 use Rattle.hy_trace.specs.declared.step.Step.TheVariants as steps
 use Rattle.hy_trace.specs.declared.step.TheConstants.{MAX_GIVES}
@@ -22,6 +23,6 @@ with_gives (suc left) p client number before =
 -- the steps with those of an operation that is run to its end; where the client is not free, the invocation alone
 unfoldable pub with_do : Params → ℕ → Action → List Step → List Step
 with_do p client action before =
-    if is_free p client (trace_of p before)
+    if is_free p client (trace_of p before) && suits action
     then with_gives MAX_GIVES p client (length (messages_of p (trace_of p before)) + 1) (steps.Invoke client action ∷ before)
     else steps.Invoke client action ∷ before

@@ -1,6 +1,6 @@
 -- The order of a key's operations: each stands at its point.
 use Rattle.std.specs.Prelude.{ℕ, Bool, true, false, ◌&&◌, ◌||◌, ◌==◌, not, nat_lt, List, [], ◌∷◌, map, Option, Some, None, if◌then◌else◌}
-use Rattle.std.specs.Option.{option_map}
+use Rattle.std.specs.Option.{option_or, option_map}
 use Rattle.std.specs.List.{filter_map}
 use Rattle.hy_record.specs.declared.action.Action.{Action}
 use Rattle.hy_record.specs.declared.action.Action.TheVariants as asked
@@ -13,7 +13,7 @@ use Rattle.hy_protocol.specs.Operations.{key_of, write_plan}
 use Rattle.hy_order.specs.declared.operation.Operation.{Operation}
 use Rattle.hy_trace.specs.Deeds.{Params, Deed, served, inputs_of}
 use Rattle.hy_trace.specs.History.{Return, return_of, Begun, begun_of, operation_of}
-use Rattle.hy_trace.specs.Points.{Point, is_earlier, read_point, write_point, was_applied}
+use Rattle.hy_trace.specs.Points.{Point, is_earlier, read_point, write_point, changed_point, was_applied}
 
 -- an operation in an order: the timestamp that it wrote or found, whether it reads (0 for a write, 1 for a read), and its point
 pub record Mark : Type 0 where
@@ -22,9 +22,11 @@ pub record Mark : Type 0 where
   pub reads : ℕ
   pub point : Point
 
--- a put or delete that finished
+-- a put, a delete or a swap that did what was asked
 abbrev pub is_done : Reply → Bool
 is_done (told.Done s) = true
+is_done (told.Swapped s) = true
+is_done (told.Changed s) = false
 is_done (told.Value v s) = false
 is_done (told.Absent s) = false
 is_done (told.Exhausted s) = false
@@ -34,7 +36,7 @@ abbrev pub is_done_return : Option Return → Bool
 is_done_return None = false
 is_done_return (Some r) = is_done r.reply
 
--- a put or delete is listed where it finished, or its update was applied
+-- a put, a delete or a swap is listed where it did what was asked, or its update was applied
 abbrev pub write_mark : Params → List Deed → Begun → List ℕ → Option (List ℕ) → Option Mark
 write_mark p t b key value =
     if is_done_return (return_of p b.client b.op t) || was_applied (served t) b.client b.op
@@ -53,17 +55,37 @@ reply_mark p t b (told.Absent s) = found_mark p t b s
 reply_mark p t b (told.Done s) = None
 reply_mark p t b (told.Exhausted s) = None
 reply_mark p t b (told.Collected n) = None
+reply_mark p t b (told.Swapped s) = None
+reply_mark p t b (told.Changed s) = None
 
 -- a get is listed where it finished
 abbrev pub read_mark : Params → List Deed → Begun → Option Return → Option Mark
 read_mark p t b None = None
 read_mark p t b (Some r) = reply_mark p t b r.reply
 
+-- a swap that found another record
+abbrev pub changed_reply_mark : Params → List Deed → Begun → Reply → Option Mark
+changed_reply_mark p t b (told.Changed s) =
+    Some (record { op = operation_of p t b; stamp = s; reads = 1; point = changed_point b.client b.op t })
+changed_reply_mark p t b (told.Swapped s) = None
+changed_reply_mark p t b (told.Done s) = None
+changed_reply_mark p t b (told.Exhausted s) = None
+changed_reply_mark p t b (told.Collected n) = None
+changed_reply_mark p t b (told.Value v s) = None
+changed_reply_mark p t b (told.Absent s) = None
+
+-- it is listed, as a read
+abbrev pub changed_mark : Params → List Deed → Begun → Option Return → Option Mark
+changed_mark p t b None = None
+changed_mark p t b (Some r) = changed_reply_mark p t b r.reply
+
 abbrev pub mark_by : Params → List Deed → Begun → Action → Option Mark
 mark_by p t b (asked.Put key value) = write_mark p t b key (Some value)
 mark_by p t b (asked.Delete key) = write_mark p t b key None
 mark_by p t b (asked.Get key) = read_mark p t b (return_of p b.client b.op t)
 mark_by p t b (asked.Collect key) = None
+mark_by p t b (asked.Swap key expected value) =
+    option_or (changed_mark p t b (return_of p b.client b.op t)) (write_mark p t b key (Some value))
 
 -- the operation in the order of the key, if it is listed there
 unfoldable pub mark_of : Params → List Deed → List ℕ → Begun → Option Mark

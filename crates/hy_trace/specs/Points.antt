@@ -1,12 +1,11 @@
 -- The point of an operation: the moment of the trace at which it takes effect.
 use Rattle.std.specs.Prelude.{ℕ, ◌+◌, Bool, true, false, ◌&&◌, ◌||◌, ◌==◌, not, nat_lt, List, [], ◌∷◌, length, Option, Some, None, if◌then◌else◌}
-use Rattle.std.specs.Option.{option_or}
+use Rattle.std.specs.Option.{option_or, option_map}
 use Rattle.hy_record.specs.declared.message.MetaAsk.{MetaAsk}
-use Rattle.hy_record.specs.declared.message.MetaAsk.TheVariants as asks
 use Rattle.hy_record.specs.Stamp.{Timestamp, stamp_lt}
 use Rattle.hy_record.specs.Key.{key_eq}
 use Rattle.hy_record.specs.Record.{RecordValue}
-use Rattle.hy_meta.specs.Service.{stamp_of_record, record_stamp}
+use Rattle.hy_meta.specs.Service.{Attempt, attempt_of, applies, stamp_of_record, record_after}
 use Rattle.hy_protocol.specs.Inputs.{has_of}
 use Rattle.hy_protocol.specs.Read.{Version, version_of}
 use Rattle.hy_trace.specs.Deeds.{Deed, Joined, Began, Handed, Served, Granted, Stopped, Nothing, served, inputs_of}
@@ -44,7 +43,7 @@ version_made client op (Nothing ∷ before) = version_made client op before
 abbrev pub read_point : ℕ → ℕ → List Deed → Point
 read_point client op t = record { step = version_made client op t; is_just_before = false }
 
--- an update that the service served: whose it was, at which step, and whether it was applied
+-- an update or a judged swap that the service served: whose it was, at which step, and whether it was applied
 pub record Update : Type 0 where
   pub client : ℕ
   pub op : ℕ
@@ -53,14 +52,21 @@ pub record Update : Type 0 where
   pub step : ℕ
   pub is_applied : Bool
 
+-- an attempt on the service that was served after these deeds
+abbrev pub update_as : List Deed → Attempt → Update
+update_as before a =
+    record {
+      client = a.client;
+      op = a.op;
+      key = a.key;
+      stamp = a.rec.stamp;
+      step = length before + 1;
+      is_applied = applies (record_after (served before) a.key) a;
+    }
+
 -- the update that the service serves by this request
 abbrev pub update_by : MetaAsk → List Deed → Option Update
-update_by (asks.Update c o k r) before =
-    Some (record { client = c; op = o; key = k; stamp = r.stamp; step = length before + 1; is_applied = stamp_lt (record_stamp (served before) k) r.stamp })
-update_by (asks.Read c o k) before = None
-update_by (asks.Watch c o k s) before = None
-update_by (asks.Olds c o k) before = None
-update_by (asks.Forget c o k ss) before = None
+update_by ask before = option_map (update_as before) (attempt_of (served before) ask)
 
 -- the update that the service serves at the deed
 abbrev pub update_at : Deed → List Deed → Option Update
@@ -107,23 +113,31 @@ point_by (Some u) t =
 unfoldable pub write_point : ℕ → ℕ → List Deed → Point
 write_point client op t = point_by (first_update (is_own client op) t) t
 
+-- the point of a swap that found another record: where it was judged; else where the answer was made that told that record
+abbrev pub changed_by : Option Update → ℕ → ℕ → List Deed → Point
+changed_by None client op t = read_point client op t
+changed_by (Some u) client op t = record { step = u.step; is_just_before = false }
+
+unfoldable pub changed_point : ℕ → ℕ → List Deed → Point
+changed_point client op t = changed_by (first_update (is_own client op) t) client op t
+
+-- what was attempted is of the operation, and was applied
+abbrev pub is_applied_own : Option Attempt → List MetaAsk → ℕ → ℕ → Bool
+is_applied_own None before client op = false
+is_applied_own (Some a) before client op = a.client == client && a.op == op && applies (record_after before a.key) a
+
 -- an update of the operation was applied
 unfoldable pub was_applied : List MetaAsk → ℕ → ℕ → Bool
 was_applied [] client op = false
-was_applied (asks.Update c o k r ∷ before) client op =
-    (c == client && o == op && stamp_lt (record_stamp before k) r.stamp) || was_applied before client op
-was_applied (asks.Read c o k ∷ before) client op = was_applied before client op
-was_applied (asks.Watch c o k s ∷ before) client op = was_applied before client op
-was_applied (asks.Olds c o k ∷ before) client op = was_applied before client op
-was_applied (asks.Forget c o k ss ∷ before) client op = was_applied before client op
+was_applied (ask ∷ before) client op = is_applied_own (attempt_of before ask) before client op || was_applied before client op
+
+-- what was attempted is on the key, and was applied
+abbrev pub is_applied_on : Option Attempt → List MetaAsk → List ℕ → Bool
+is_applied_on None before key = false
+is_applied_on (Some a) before key = key_eq a.key key && applies (record_after before key) a
 
 -- how many updates of the key were applied
 unfoldable pub applied_count : List MetaAsk → List ℕ → ℕ
 applied_count [] key = 0
-applied_count (asks.Update c o k r ∷ before) key =
-    if key_eq k key && stamp_lt (record_stamp before key) r.stamp then applied_count before key + 1
-    else applied_count before key
-applied_count (asks.Read c o k ∷ before) key = applied_count before key
-applied_count (asks.Watch c o k s ∷ before) key = applied_count before key
-applied_count (asks.Olds c o k ∷ before) key = applied_count before key
-applied_count (asks.Forget c o k ss ∷ before) key = applied_count before key
+applied_count (ask ∷ before) key =
+    if is_applied_on (attempt_of before ask) before key then applied_count before key + 1 else applied_count before key

@@ -48,6 +48,23 @@ get_of number client invoked end = record { number = number; client = client; ac
 abbrev pub delete_of : ℕ → ℕ → ℕ → End → Operation
 delete_of number client invoked end = record { number = number; client = client; action = asked.Delete a; invoked = invoked; end = end }
 
+-- the key `_a`, which swaps alone write
+abbrev pub cell : List ℕ
+cell = 95 ∷ 97 ∷ []
+
+abbrev pub swap_of : ℕ → ℕ → Timestamp → ℕ → ℕ → End → Operation
+swap_of number client expected byte invoked end =
+    record { number = number; client = client; action = asked.Swap cell expected (byte ∷ []); invoked = invoked; end = end }
+
+-- a client is asked for a swap of the cell to a byte, and what is sent from then on is delivered
+abbrev pub swaps : ℕ → Timestamp → ℕ → List ℕ → List Step
+swaps client expected byte numbers = steps.Invoke client (asked.Swap cell expected (byte ∷ [])) ∷ gives numbers
+
+-- these steps make this history, with this order of the cell
+abbrev pub TellsCell : Params → List Step → List Operation → List ℕ → Type 0
+TellsCell p schedule ops order =
+    (history_of p (trace_of p (reverse schedule)) ≡ ops) × (linearization_of p (trace_of p (reverse schedule)) cell ≡ order)
+
 -- these steps, the first of which stands first, make this history, with this order of the key `a`
 abbrev pub Tells : Params → List Step → List Operation → List ℕ → Type 0
 Tells p schedule ops order =
@@ -143,4 +160,34 @@ pub record WorkedRows : Type 0 where
       Tells one_cloud
       (put_begins ++ steps.Invoke 1 (asked.Get a) ∷ steps.Invoke 2 (asked.Get a) ∷ steps.Stop 1 ∷ steps.Invoke 1 (asked.Get a) ∷ [])
       (put_of 1 1 1 2 (Pending phases.Read 0 1) ∷ [])
+      []
+  -- a swap that finds what it expects, one that finds another record, and one that expects that
+  pub swap_sequence :
+      TellsCell one_cloud
+      (steps.Join ∷ steps.Join ∷ swaps 1 (stamp 0 0) 1 (1 ∷ 2 ∷ 3 ∷ 4 ∷ 5 ∷ 6 ∷ []) ++ swaps 2 (stamp 0 0) 2 (7 ∷ 8 ∷ []) ++
+      swaps 2 (stamp 1 1) 3 (9 ∷ 10 ∷ 11 ∷ 12 ∷ 13 ∷ 14 ∷ []))
+      (swap_of 1 1 (stamp 0 0) 1 3 (Replied 9 (told.Swapped (stamp 1 1)))
+      ∷ swap_of 2 2 (stamp 0 0) 2 10 (Replied 12 (told.Changed (stamp 1 1)))
+      ∷ swap_of 3 2 (stamp 1 1) 3 13 (Replied 19 (told.Swapped (stamp 2 2))) ∷ [])
+      (1 ∷ 2 ∷ 3 ∷ [])
+  -- a swap that is delivered again is answered the same again, and acts once
+  pub repeated_swap_acts_once :
+      TellsCell one_cloud
+      (steps.Join ∷ steps.Join ∷ swaps 1 (stamp 0 0) 1 (1 ∷ 2 ∷ 3 ∷ 4 ∷ 5 ∷ []) ++ swaps 2 (stamp 1 1) 2 (7 ∷ 8 ∷ 9 ∷ 10 ∷ 11 ∷ 12 ∷ []) ++
+      gives (5 ∷ 13 ∷ []))
+      (swap_of 1 1 (stamp 0 0) 1 3 (Replied 17 (told.Swapped (stamp 1 1)))
+      ∷ swap_of 2 2 (stamp 1 1) 2 9 (Replied 15 (told.Swapped (stamp 2 2))) ∷ [])
+      (1 ∷ 2 ∷ [])
+  -- of two that expect the same, one is done, and the other finds its record; what it would have written is no old version
+  pub competing_swaps :
+      TellsCell one_cloud
+      (steps.Join ∷ steps.Join ∷ swaps 1 (stamp 0 0) 1 [] ++ swaps 2 (stamp 0 0) 2 (1 ∷ 2 ∷ 3 ∷ 4 ∷ 5 ∷ 6 ∷ 7 ∷ 8 ∷ 9 ∷ 10 ∷ 11 ∷ 12 ∷ []))
+      (swap_of 1 1 (stamp 0 0) 1 3 (Replied 15 (told.Swapped (stamp 1 1)))
+      ∷ swap_of 2 2 (stamp 0 0) 2 4 (Replied 16 (told.Changed (stamp 1 1))) ∷ [])
+      (1 ∷ 2 ∷ [])
+  -- a swap of another key, and a put of a cell, are asked in vain
+  pub keys_are_kept_apart :
+      TellsCell one_cloud
+      (steps.Join ∷ steps.Invoke 1 (asked.Put cell (1 ∷ [])) ∷ steps.Invoke 1 (asked.Swap a (stamp 0 0) (1 ∷ [])) ∷ steps.Invoke 1 (asked.Delete cell) ∷ [])
+      []
       []

@@ -6,7 +6,7 @@ use Rattle.hy_record.specs.declared.message.MetaSay.TheVariants as says
 use Rattle.hy_record.specs.declared.turn.Cue.{Cue}
 use Rattle.hy_record.specs.declared.turn.Cue.TheVariants as cues
 use Rattle.hy_protocol.specs.Inputs.{addresses}
-use Rattle.hy_protocol.specs.Operations.{key_of, replied}
+use Rattle.hy_protocol.specs.Operations.{key_of, suits, replied}
 use Rattle.hy_trace.specs.declared.step.Step.{Step}
 use Rattle.hy_trace.specs.declared.step.Step.TheVariants as steps
 use Rattle.hy_trace.specs.Deeds.{Params, Deed, Joined, Began, Handed, Served, Granted, Stopped, Nothing, Start, inputs_of, start_of, reply_of, begun, joined, is_joined, is_up}
@@ -35,6 +35,8 @@ client_of (says.Kept c o k s) = c
 client_of (says.Fired c o k s) = c
 client_of (says.OldList c o k ss) = c
 client_of (says.Forgot c o k) = c
+client_of (says.Swapped c o k s) = c
+client_of (says.Changed c o k s) = c
 
 -- what the delivery of a message does that was made at this step; a Byzantine cloud takes requests without effect
 abbrev pub delivery : Params → List Deed → ℕ → Option Message → Deed
@@ -47,7 +49,8 @@ delivery p trace made (Some (Answer reply)) = hand p reply.client made (cues.Clo
 -- what a step does
 unfoldable pub deed_of : Params → Step → List Deed → Deed
 deed_of p steps.Join trace = if nat_lt (joined trace) MAX_SESSIONS then Joined else Nothing
-deed_of p (steps.Invoke client action) trace = if is_free p client trace then Began client (begun client trace + 1) action else Nothing
+deed_of p (steps.Invoke client action) trace =
+    if is_free p client trace && suits action then Began client (begun client trace + 1) action else Nothing
 deed_of p (steps.Give number) trace = delivery p trace (step_of p number trace) (message_at number (messages_of p trace))
 deed_of p (steps.Lie reply) trace = if p.is_liar reply.cloud then hand p reply.client 0 (cues.Cloud reply) trace else Nothing
 deed_of p (steps.Tick client) trace = hand p client 0 cues.Tick trace

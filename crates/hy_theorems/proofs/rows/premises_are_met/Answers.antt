@@ -27,6 +27,7 @@ use Rattle.hy_code.specs.Polynomial.{AreElements}
 use Rattle.hy_trace.specs.Rows.{one_cloud, a, stamp}
 use Rattle.hy_theorems.specs.Rows.{trace, put_delete_get, get_start, first_record}
 use Rattle.hy_theorems.proofs.Listing.{IsIn}
+use Rattle.hy_theorems.specs.Writing.{Puts}
 use Rattle.hy_theorems.proofs.Premises.{put_values, bodies_of, one-string, value-in}
 use Rattle.hy_theorems.proofs.rows.premises_are_met.Goals as goal
 
@@ -35,12 +36,12 @@ unfolding stamp_lt stamp_eq key_eq clouds_of record_after record_stamp service_a
 returns c = record {
   shape = record { faults = omega arith; some = omega arith; parts = omega arith };
   free = one-string one_cloud (trace one_cloud put_delete_get) (1 ∷ []) refl refl refl refl;
-  bytes = λ c o s key value is action. only value (value-in c o (trace one_cloud put_delete_get) s key value is action);
+  bytes = λ c o s value is stores. only value (value-in c o (trace one_cloud put_delete_get) s value is stores);
   liars = omega arith;
   current = refl;
   value = refl;
   reported = (_, refl);
-  writing = record { start = record { action = asked.Put a (1 ∷ []); before = Joined ∷ Joined ∷ [] }; began = refl; value = Some (1 ∷ []); action_is = refl; own = refl };
+  writing = record { start = record { action = asked.Put a (1 ∷ []); before = Joined ∷ Joined ∷ [] }; began = refl; change = Puts (1 ∷ []); action_is = refl; met = tt; own = refl };
   deleted = inr (inr (inr (inr (inl (inl refl)))));
   get = record { began = refl; action_is = refl };
   refreshes = refl;
