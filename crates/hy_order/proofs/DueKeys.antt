@@ -14,8 +14,7 @@ use Rattle.std.specs.declared.cmp.Ordering.{Ordering}
 use Rattle.std.specs.declared.cmp.Ordering.TheVariants.{Less, Equal, Greater}
 use Rattle.hy_order.specs.declared.operation.Operation.{Operation}
 use Rattle.hy_order.specs.Due.{is_key, names_key}
-use Rattle.hy_order.specs.Keys.{insert_key, sorted_keys}
-use Rattle.hy_order.specs.ReportRanges.{register_key, register_keys}
+use Rattle.hy_order.specs.Keys.{insert_key, sorted_keys, register_key, register_keys}
 
 -- a set takes a key as a sorted list does
 pub insert_key-set : (keys : List (List ℕ)) (key : List ℕ) → set.insert_key (slice_cmp nat_cmp) keys key ≡ insert_key key keys

@@ -9,9 +9,9 @@ use Rattle.hy_order.specs.declared.operation.Operation.{Operation}
 use Rattle.hy_order.specs.declared.order.Order.{Order}
 use Rattle.hy_order.specs.declared.report.Report.{Report}
 use Rattle.hy_order.specs.History.{key_of_action}
-use Rattle.hy_order.specs.Keys.{sorted_keys}
+use Rattle.hy_order.specs.Keys.{sorted_keys, register_key, register_keys}
 use Rattle.hy_order.specs.Linearization.{IsReportLinearizable, acts_on_register, has_order}
-use Rattle.hy_order.specs.ReportRanges.{IsReport, register_key, register_keys}
+use Rattle.hy_order.specs.ReportRanges.{IsReport}
 use Rattle.hy_order.specs.Violation.{first_illegal}
 use Rattle.hy_order.proofs.Illegal.{none_illegal}
 use Rattle.hy_order.proofs.Elements.{each}
@@ -25,6 +25,7 @@ register_key-acts : (action : Action) → acts_on_register action ≡ true → r
 register_key-acts (asked.Put key value) acts = refl
 register_key-acts (asked.Get key) acts = refl
 register_key-acts (asked.Delete key) acts = refl
+register_key-acts (asked.Swap key expected value) acts = refl
 register_key-acts (asked.Collect key) acts = absurd (false≢true acts)
 
 abbrev IsDue : List (List ℕ) → Operation → Type 0

@@ -26,7 +26,7 @@ use Rattle.hy_text.specs.Phase.{phase_word, phases, phase_of}
 use Rattle.hy_text.specs.Stamp.{stamp_words}
 use Rattle.hy_order.specs.Report.{reply_words, end_words}
 use Rattle.hy_order.specs.ReportRanges.{IsTextStamp, IsTextReply, IsTextEnd}
-use Rattle.hy_order.specs.WordReaders.{any_stamp_from, write_reply_from, value_from, get_reply_from, collect_reply_from, reply_from, phase_word_of, pending_from, replied_from, end_from}
+use Rattle.hy_order.specs.WordReaders.{any_stamp_from, write_reply_from, swap_reply_from, value_from, get_reply_from, collect_reply_from, reply_from, phase_word_of, pending_from, replied_from, end_from}
 use Rattle.hy_text.proofs.Groups.{Spells, number_first, value_first, phase_filled, phase_again, stamp_takes, stamp_again}
 use Rattle.hy_text.proofs.Tables.{named_takes}
 use Rattle.hy_text.proofs.Numbers.{number_again}
@@ -109,11 +109,32 @@ collect_takes key words read e =
       | inr bad ↦ absurd cc
     ]
 
+swap_takes : (key : List ℕ) (expected : Timestamp) (value : List ℕ) (words : List (List ℕ)) (read : Reply × List (List ℕ)) → swap_reply_from words ≡ Ok read
+    → Spells reply_words (IsReplyOf (asked.Swap key expected value)) words read
+unfolding swap_reply_from
+swap_takes key expected value words read e =
+    let action : Action = asked.Swap key expected value in
+    let P : List (List ℕ) → Type 0 = λ ws. Spells reply_words (IsReplyOf action) ws read in
+    elim (chosen (bytes_eq (first_word words) (codes "swapped")) (any_stamp_from (later_words words) >>= λ stamp. Ok (told.Swapped stamp.0, stamp.1)) _ read e) [
+      | inl swapped ↦ subst P (sym (keyword_first words (codes "swapped") swapped.0 (omega arith)))
+          (stamped_takes action told.Swapped (codes "swapped") (later_words words) read (λ stamp. refl) (λ stamp fits. record { range = fits; can = refl }) swapped.1)
+      | inr second ↦ elim (chosen (bytes_eq (first_word words) (codes "changed")) (any_stamp_from (later_words words) >>= λ stamp. Ok (told.Changed stamp.0, stamp.1)) _ read second) [
+        | inl changed ↦ subst P (sym (keyword_first words (codes "changed") changed.0 (omega arith)))
+            (stamped_takes action told.Changed (codes "changed") (later_words words) read (λ stamp. refl) (λ stamp fits. record { range = fits; can = refl }) changed.1)
+        | inr third ↦ elim (chosen (bytes_eq (first_word words) (codes "exhausted")) (any_stamp_from (later_words words) >>= λ stamp. Ok (told.Exhausted stamp.0, stamp.1)) (Err BadWord) read third) [
+          | inl exhausted ↦ subst P (sym (keyword_first words (codes "exhausted") exhausted.0 (omega arith)))
+              (stamped_takes action told.Exhausted (codes "exhausted") (later_words words) read (λ stamp. refl) (λ stamp fits. record { range = fits; can = refl }) exhausted.1)
+          | inr bad ↦ absurd cc
+        ]
+      ]
+    ]
+
 reply_takes : (action : Action) (words : List (List ℕ)) (read : Reply × List (List ℕ)) → reply_from action words ≡ Ok read → Spells reply_words (IsReplyOf action) words read
 reply_takes (asked.Put key value) words read e = write_takes (asked.Put key value) words read (λ stamp. refl) (λ stamp. refl) e
 reply_takes (asked.Get key) words read e = get_takes key words read e
 reply_takes (asked.Delete key) words read e = write_takes (asked.Delete key) words read (λ stamp. refl) (λ stamp. refl) e
 reply_takes (asked.Collect key) words read e = collect_takes key words read e
+reply_takes (asked.Swap key expected value) words read e = swap_takes key expected value words read e
 
 -- ---- ends
 
@@ -188,6 +209,17 @@ exhausted_again : (stamp : Timestamp) (left : List (List ℕ)) → IsTextStamp s
 unfolding write_reply_from
 exhausted_again stamp left fits = rw (stamp_again 0 MAX_COUNT stamp left (omega arith) fits) refl
 
+swap_again : (key : List ℕ) (expected : Timestamp) (value : List ℕ) (reply : Reply) (left : List (List ℕ)) → IsTextReply reply → is_reply_of (asked.Swap key expected value) reply ≡ true
+    → swap_reply_from (reply_words reply ++ left) ≡ Ok (reply, left)
+unfolding swap_reply_from
+swap_again key expected value (told.Swapped stamp) left fits can = rw (stamp_again 0 MAX_COUNT stamp left (omega arith) fits) refl
+swap_again key expected value (told.Changed stamp) left fits can = rw (stamp_again 0 MAX_COUNT stamp left (omega arith) fits) refl
+swap_again key expected value (told.Exhausted stamp) left fits can = rw (stamp_again 0 MAX_COUNT stamp left (omega arith) fits) refl
+swap_again key expected value (told.Done stamp) left fits can = absurd cc
+swap_again key expected value (told.Value bytes stamp) left fits can = absurd cc
+swap_again key expected value (told.Absent stamp) left fits can = absurd cc
+swap_again key expected value (told.Collected count) left fits can = absurd cc
+
 reply_again : (action : Action) (reply : Reply) (left : List (List ℕ)) → IsTextReply reply → is_reply_of action reply ≡ true → reply_from action (reply_words reply ++ left) ≡ Ok (reply, left)
 unfolding get_reply_from value_from collect_reply_from
 reply_again (asked.Put key value) (told.Done stamp) left fits can = done_again stamp left fits
@@ -195,21 +227,30 @@ reply_again (asked.Put key value) (told.Exhausted stamp) left fits can = exhaust
 reply_again (asked.Put key value) (told.Value bytes stamp) left fits can = absurd cc
 reply_again (asked.Put key value) (told.Absent stamp) left fits can = absurd cc
 reply_again (asked.Put key value) (told.Collected count) left fits can = absurd cc
+reply_again (asked.Put key value) (told.Swapped stamp) left fits can = absurd cc
+reply_again (asked.Put key value) (told.Changed stamp) left fits can = absurd cc
 reply_again (asked.Delete key) (told.Done stamp) left fits can = done_again stamp left fits
 reply_again (asked.Delete key) (told.Exhausted stamp) left fits can = exhausted_again stamp left fits
 reply_again (asked.Delete key) (told.Value bytes stamp) left fits can = absurd cc
 reply_again (asked.Delete key) (told.Absent stamp) left fits can = absurd cc
 reply_again (asked.Delete key) (told.Collected count) left fits can = absurd cc
+reply_again (asked.Delete key) (told.Swapped stamp) left fits can = absurd cc
+reply_again (asked.Delete key) (told.Changed stamp) left fits can = absurd cc
 reply_again (asked.Get key) (told.Done stamp) left fits can = absurd cc
 reply_again (asked.Get key) (told.Exhausted stamp) left fits can = absurd cc
 reply_again (asked.Get key) (told.Value bytes stamp) left fits can = rw (value_again_of bytes fits.0, stamp_again 0 MAX_COUNT stamp left (omega arith) fits.1) refl
 reply_again (asked.Get key) (told.Absent stamp) left fits can = rw (stamp_again 0 MAX_COUNT stamp left (omega arith) fits) refl
 reply_again (asked.Get key) (told.Collected count) left fits can = absurd cc
+reply_again (asked.Get key) (told.Swapped stamp) left fits can = absurd cc
+reply_again (asked.Get key) (told.Changed stamp) left fits can = absurd cc
 reply_again (asked.Collect key) (told.Done stamp) left fits can = absurd cc
 reply_again (asked.Collect key) (told.Exhausted stamp) left fits can = absurd cc
 reply_again (asked.Collect key) (told.Value bytes stamp) left fits can = absurd cc
 reply_again (asked.Collect key) (told.Absent stamp) left fits can = absurd cc
 reply_again (asked.Collect key) (told.Collected count) left fits can = rw (count_again count fits) refl
+reply_again (asked.Collect key) (told.Swapped stamp) left fits can = absurd cc
+reply_again (asked.Collect key) (told.Changed stamp) left fits can = absurd cc
+reply_again (asked.Swap key expected value) reply left fits can = swap_again key expected value reply left fits can
 
 phase_word_again : (action : Action) (at : Phase) → is_phase_of action at ≡ true → phase_word_of action (phase_word at) ≡ Ok at
 unfolding phase_word_of

@@ -1,19 +1,23 @@
 -- An order has no violation exactly where it is a linearization.
-use Rattle.std.proofs.Common.{◌≡◌, ℕ, suc, Bool, true, false, ◌&&◌, ◌||◌, not, cond, IsTrue, ◌↔◌, nat_eq, List, [], ◌∷◌, ◌++◌, Option, Some, None, is_none, Contains, refl, sym, ap, ◌∙◌, inl, inr, arith, eqb}
+use Rattle.std.proofs.Common.{◌≡◌, ◌≢◌, ℕ, suc, Bool, true, false, ◌&&◌, ◌||◌, not, cond, IsTrue, ◌↔◌, nat_eq, List, [], ◌∷◌, ◌++◌, Option, Some, None, is_none, Contains, refl, sym, ap, ◌∙◌, inl, inr, arith, eqb}
 use Rattle.std.proofs.lemmas.Bool.{and_from, and_left, and_right, and_parts, and_cases, or_cases, or_parts, or_from, cond-true, cond-false, not-false, not_from_true, eqb-true, eq-eqb, false≢true, cases_Bool}
 use Rattle.std.proofs.lemmas.List.Folds.{list_any-append, list_any_at}
 use Rattle.std.specs.Cmp.Lexicographic.{bytes_decides}
 use Rattle.std.specs.List.{AllByRecursion, IsDistinct, find}
 use Rattle.std.specs.Option.{option_map, option_or, option_map_or}
+use Rattle.hy_record.specs.Stamp.{Timestamp, stamp_eq}
+use Rattle.hy_record.specs.declared.action.Action.{Action}
+use Rattle.hy_record.specs.declared.action.Action.TheVariants as asked
 use Rattle.hy_record.specs.declared.action.Reply.TheVariants as told
+use Rattle.hy_record.proofs.Order.{stamp_eq-true, stamp_eq-same}
 use Rattle.hy_order.specs.declared.verdict.Verdict.{Verdict}
 use Rattle.hy_order.specs.declared.verdict.Verdict.TheVariants.{Legal, Missing, Stranger, Twice, Early, Wrong}
 use Rattle.hy_order.specs.declared.operation.End.{End}
 use Rattle.hy_order.specs.declared.operation.End.TheVariants.{Replied, Pending}
 use Rattle.hy_order.specs.declared.operation.Operation.{Operation}
-use Rattle.hy_order.specs.Linearization.{is_of_key, is_finished, register_after, operation_at, listed, IsMember, TellsRegister, ReadsRegister, RespectsRealTime, IsLinearization}
+use Rattle.hy_order.specs.Linearization.{is_of_key, is_finished, Register, no_register, register_after, operation_at, listed, IsMember, IsStampOf, FindsStamp, TellsValue, TellsRegister, ReadsRegister, RespectsRealTime, IsLinearization}
 use Rattle.hy_order.proofs.Elements.{each}
-use Rattle.hy_order.specs.Violation.{is_listed, missing_number, is_member, stranger_number, repeated_after, early_numbers, is_held, tells_register, wrong_number, first_violation}
+use Rattle.hy_order.specs.Violation.{is_listed, missing_number, is_member, stranger_number, repeated_after, early_numbers, is_held, is_stamp_of, tells_value, finds_stamp, tells_register, wrong_number, first_violation}
 
 -- where a choice gives nothing
 cond_none : {X : Type 0} (b : Bool) (x : X) (rest : Option X) → cond b (Some x) rest ≡ None → (b ≡ false) × (rest ≡ None)
@@ -148,42 +152,107 @@ real_time_from (op ∷ later) respects =
     ap (λ found. option_or (option_map (λ earlier. (earlier, op.number)) (option_map (λ (next : Operation). next.number) found)) (early_numbers later)) (find_none_from _ later respects.0)
     ∙ real_time_from later respects.1
 
--- no reply is wrong exactly where each tells what the register holds
+-- no operation is wrong exactly where each tells what the register holds
 holds : (held : Option (List ℕ)) (value : List ℕ) → is_held held value ≡ true → held ≡ Some value
 holds None value there = absurd (false≢true there)
 holds (Some held) value there = ap Some ((bytes_decides held value).0 there)
 
-tells : (held : Option (List ℕ)) (end : End) → tells_register held end ≡ true → TellsRegister held end
-tells held (Replied at (told.Value value stamp)) there = holds held value there
-tells None (Replied at (told.Absent stamp)) there = refl
-tells (Some held) (Replied at (told.Absent stamp)) there = absurd (false≢true there)
-tells held (Replied at (told.Done stamp)) there = tt
-tells held (Replied at (told.Exhausted stamp)) there = tt
-tells held (Replied at (told.Collected count)) there = tt
-tells held (Pending phase have need) there = tt
+absent : (held : Option (List ℕ)) → is_none held ≡ true → held ≡ None
+absent None there = refl
+absent (Some held) there = absurd (false≢true there)
 
-tells_from : (held : Option (List ℕ)) (end : End) → TellsRegister held end → tells_register held end ≡ true
-tells_from held (Replied at (told.Value value stamp)) known = ap (λ held. is_held held value) known ∙ (bytes_decides value value).1 refl
-tells_from held (Replied at (told.Absent stamp)) known = ap is_none known
-tells_from held (Replied at (told.Done stamp)) known = refl
-tells_from held (Replied at (told.Exhausted stamp)) known = refl
-tells_from held (Replied at (told.Collected count)) known = refl
-tells_from held (Pending phase have need) known = refl
+stamp_is : (held : Option Timestamp) (stamp : Timestamp) → is_stamp_of held stamp ≡ true → IsStampOf held stamp
+stamp_is None stamp there = tt
+stamp_is (Some held) stamp there = stamp_eq-true held stamp there
+
+stamp_is_from : (held : Option Timestamp) (stamp : Timestamp) → IsStampOf held stamp → is_stamp_of held stamp ≡ true
+stamp_is_from None stamp known = refl
+stamp_is_from (Some held) stamp known = ap (λ (held : Timestamp). stamp_eq held stamp) known ∙ stamp_eq-same stamp
+
+other_stamp : (a b : Timestamp) → not (stamp_eq a b) ≡ true → a ≢ b
+other_stamp a b other same =
+    let equal : stamp_eq a b ≡ true = ap (λ (a : Timestamp). stamp_eq a b) same ∙ stamp_eq-same b in
+    false≢true (sym (ap not equal) ∙ other)
+
+other_stamp_from : (a b : Timestamp) → a ≢ b → not (stamp_eq a b) ≡ true
+other_stamp_from a b other =
+    elim (cases_Bool (stamp_eq a b)) [
+      | inl same ↦ absurd (other (stamp_eq-true a b same))
+      | inr apart ↦ ap not apart
+    ]
+
+value_tells : (held : Register) (end : End) → tells_value held end ≡ true → TellsValue held end
+value_tells held (Replied at (told.Value value stamp)) there = holds held.value value there
+value_tells held (Replied at (told.Absent stamp)) there = absent held.value there
+value_tells held (Replied at (told.Done stamp)) there = tt
+value_tells held (Replied at (told.Exhausted stamp)) there = tt
+value_tells held (Replied at (told.Collected count)) there = tt
+value_tells held (Replied at (told.Swapped stamp)) there = tt
+value_tells held (Replied at (told.Changed stamp)) there = tt
+value_tells held (Pending phase have need) there = tt
+
+value_tells_from : (held : Register) (end : End) → TellsValue held end → tells_value held end ≡ true
+value_tells_from held (Replied at (told.Value value stamp)) known = ap (λ held. is_held held value) known ∙ (bytes_decides value value).1 refl
+value_tells_from held (Replied at (told.Absent stamp)) known = ap is_none known
+value_tells_from held (Replied at (told.Done stamp)) known = refl
+value_tells_from held (Replied at (told.Exhausted stamp)) known = refl
+value_tells_from held (Replied at (told.Collected count)) known = refl
+value_tells_from held (Replied at (told.Swapped stamp)) known = refl
+value_tells_from held (Replied at (told.Changed stamp)) known = refl
+value_tells_from held (Pending phase have need) known = refl
+
+stamp_found : (held : Register) (expected : Timestamp) (end : End) → finds_stamp held expected end ≡ true → FindsStamp held expected end
+stamp_found held expected (Replied at (told.Swapped stamp)) there = stamp_is held.stamp expected there
+stamp_found held expected (Replied at (told.Changed stamp)) there =
+    let parts = and_parts (not (stamp_eq stamp expected)) (is_stamp_of held.stamp stamp) there in
+    (other_stamp stamp expected parts.0, stamp_is held.stamp stamp parts.1)
+stamp_found held expected (Replied at (told.Done stamp)) there = tt
+stamp_found held expected (Replied at (told.Exhausted stamp)) there = tt
+stamp_found held expected (Replied at (told.Value value stamp)) there = tt
+stamp_found held expected (Replied at (told.Absent stamp)) there = tt
+stamp_found held expected (Replied at (told.Collected count)) there = tt
+stamp_found held expected (Pending phase have need) there = stamp_is held.stamp expected there
+
+stamp_found_from : (held : Register) (expected : Timestamp) (end : End) → FindsStamp held expected end → finds_stamp held expected end ≡ true
+stamp_found_from held expected (Replied at (told.Swapped stamp)) known = stamp_is_from held.stamp expected known
+stamp_found_from held expected (Replied at (told.Changed stamp)) known =
+    and_from (not (stamp_eq stamp expected)) (is_stamp_of held.stamp stamp) (other_stamp_from stamp expected known.0) (stamp_is_from held.stamp stamp known.1)
+stamp_found_from held expected (Replied at (told.Done stamp)) known = refl
+stamp_found_from held expected (Replied at (told.Exhausted stamp)) known = refl
+stamp_found_from held expected (Replied at (told.Value value stamp)) known = refl
+stamp_found_from held expected (Replied at (told.Absent stamp)) known = refl
+stamp_found_from held expected (Replied at (told.Collected count)) known = refl
+stamp_found_from held expected (Pending phase have need) known = stamp_is_from held.stamp expected known
+
+tells : (held : Register) (action : Action) (end : End) → tells_register held action end ≡ true → TellsRegister held action end
+tells held (asked.Put key value) end there = value_tells held end there
+tells held (asked.Delete key) end there = value_tells held end there
+tells held (asked.Get key) end there = value_tells held end there
+tells held (asked.Collect key) end there = value_tells held end there
+tells held (asked.Swap key expected value) end there = stamp_found held expected end there
+
+tells_from : (held : Register) (action : Action) (end : End) → TellsRegister held action end → tells_register held action end ≡ true
+tells_from held (asked.Put key value) end known = value_tells_from held end known
+tells_from held (asked.Delete key) end known = value_tells_from held end known
+tells_from held (asked.Get key) end known = value_tells_from held end known
+tells_from held (asked.Collect key) end known = value_tells_from held end known
+tells_from held (asked.Swap key expected value) end known = stamp_found_from held expected end known
 
 cond_else_none : {X : Type 0} (b : Bool) (x : X) (rest : Option X) → cond b rest (Some x) ≡ None → (b ≡ true) × (rest ≡ None)
 cond_else_none true x rest none = (refl, none)
 cond_else_none false x rest none = cc
 
-reads : (held : Option (List ℕ)) (ops : List Operation) → wrong_number held ops ≡ None → ReadsRegister held ops
+reads : (held : Register) (ops : List Operation) → wrong_number held ops ≡ None → ReadsRegister held ops
 reads held [] none = tt
 reads held (op ∷ later) none =
-    let parts = cond_else_none (tells_register held op.end) op.number (wrong_number (register_after op.action held) later) none in
-    (tells held op.end parts.0, reads (register_after op.action held) later parts.1)
+    let after : Register = register_after op.action op.end held in
+    let parts = cond_else_none (tells_register held op.action op.end) op.number (wrong_number after later) none in
+    (tells held op.action op.end parts.0, reads after later parts.1)
 
-reads_from : (held : Option (List ℕ)) (ops : List Operation) → ReadsRegister held ops → wrong_number held ops ≡ None
+reads_from : (held : Register) (ops : List Operation) → ReadsRegister held ops → wrong_number held ops ≡ None
 reads_from held [] known = refl
 reads_from held (op ∷ later) known =
-    cond-true (tells_register held op.end) _ _ (tells_from held op.end known.0) ∙ reads_from (register_after op.action held) later known.1
+    cond-true (tells_register held op.action op.end) _ _ (tells_from held op.action op.end known.0) ∙ reads_from (register_after op.action op.end held) later known.1
 
 -- each find of the chain gave nothing
 record FindsNothing (history : List Operation) (key order : List ℕ) : Type 0 where
@@ -191,7 +260,7 @@ record FindsNothing (history : List Operation) (key order : List ℕ) : Type 0 w
   stranger : stranger_number history key order ≡ None
   twice : repeated_after [] order ≡ None
   early : early_numbers (listed history order) ≡ None
-  wrong : wrong_number None (listed history order) ≡ None
+  wrong : wrong_number no_register (listed history order) ≡ None
 
 legal_chain : (missing stranger twice : Option ℕ) (early : Option (ℕ × ℕ)) (wrong : Option ℕ) →
     option_map_or Missing missing (option_map_or Stranger stranger (option_map_or Twice twice (option_map_or (λ (pair : ℕ × ℕ). Early pair.0 pair.1) early (option_map_or Wrong wrong Legal)))) ≡ Legal
@@ -211,13 +280,13 @@ legal_chain_from missing stranger twice early wrong e1 e2 e3 e4 e5 = rw (e1, e2,
 finds_nothing : (history : List Operation) (key order : List ℕ) → first_violation history key order ≡ Legal → FindsNothing history key order
 unfolding first_violation
 finds_nothing history key order legal =
-    let parts = legal_chain (missing_number history key order) (stranger_number history key order) (repeated_after [] order) (early_numbers (listed history order)) (wrong_number None (listed history order)) legal in
+    let parts = legal_chain (missing_number history key order) (stranger_number history key order) (repeated_after [] order) (early_numbers (listed history order)) (wrong_number no_register (listed history order)) legal in
     record { missing = parts.0; stranger = parts.1; twice = parts.2; early = parts.3; wrong = parts.4 }
 
 finds_nothing_legal : (history : List Operation) (key order : List ℕ) → FindsNothing history key order → first_violation history key order ≡ Legal
 unfolding first_violation
 finds_nothing_legal history key order nothing =
-    legal_chain_from (missing_number history key order) (stranger_number history key order) (repeated_after [] order) (early_numbers (listed history order)) (wrong_number None (listed history order))
+    legal_chain_from (missing_number history key order) (stranger_number history key order) (repeated_after [] order) (early_numbers (listed history order)) (wrong_number no_register (listed history order))
     nothing.missing nothing.stranger nothing.twice nothing.early nothing.wrong
 
 -- an order has no violation exactly where it is a linearization
@@ -230,14 +299,14 @@ Legal-IsLinearization history key order = (
         members = members history key order nothing.stranger;
         distinct = (fresh [] order nothing.twice).distinct;
         real_time = real_time (listed history order) nothing.early;
-        reads = reads None (listed history order) nothing.wrong;
+        reads = reads no_register (listed history order) nothing.wrong;
       },
   λ known. finds_nothing_legal history key order (record {
     missing = complete_from key order history known.complete;
     stranger = members_from history key order known.members;
     twice = fresh_from [] order (record { apart = apart_from_none order; distinct = known.distinct });
     early = real_time_from (listed history order) known.real_time;
-    wrong = reads_from None (listed history order) known.reads;
+    wrong = reads_from no_register (listed history order) known.reads;
   }),
 )
 

@@ -8,13 +8,16 @@ use Rattle.hy_text.specs.Line.{first_word, later_words}
 use Rattle.hy_text.specs.Slot.{number_of, end_of}
 use Rattle.hy_base.proofs.Results.{bind_ok, ok_is}
 use Rattle.hy_text.proofs.Slots as slots
+use Rattle.hy_record.specs.declared.action.Action.{Action}
+use Rattle.hy_record.specs.declared.action.Action.TheVariants as asked
 use Rattle.hy_order.specs.declared.operation.Operation.{Operation}
 use Rattle.hy_order.specs.declared.report.TheConstants.{LAST_STEP}
-use Rattle.hy_order.specs.History.{IsHistory, IsNumberedFrom, is_end_of}
+use Rattle.hy_order.specs.History.{IsHistory, IsNumberedFrom, is_own_key, is_end_of}
 use Rattle.hy_text.specs.Kind.{items_from}
 use Rattle.hy_text.specs.OpenLine.{OpenLine, Rest}
 use Rattle.hy_base.specs.declared.limits.TheConstants.{MAX_COUNT}
-use Rattle.hy_text.specs.Action.{action_words, action_from}
+use Rattle.hy_text.specs.Action.{action_words, IsTextAction, action_from}
+use Rattle.hy_text.specs.declared.action.Verbs.TheVariants.{All}
 use Rattle.hy_order.specs.Report.{end_words, operation_row}
 use Rattle.hy_order.specs.ReportRanges.{IsTextOperation, AreTextOperations}
 use Rattle.hy_order.specs.ReportReading.{Before, operation_of_words, operation_lines}
@@ -37,13 +40,13 @@ operation_takes last step words op e =
     let second : List (List ℕ) = later_words words in
     let number = bind_ok (number_after last (first_word words)) _ op e in
     let client = bind_ok (number_of 1 MAX_COUNT (first_word second)) _ op number.2 in
-    let action = bind_ok (action_from (later_words second)) _ op client.2 in
+    let action = bind_ok (action_from All MAX_COUNT (later_words second)) _ op client.2 in
     let invoked = bind_ok (number_of (step + 1) LAST_STEP (first_word action.0.1)) _ op action.2 in
     let end = bind_ok (end_from action.0.0 invoked.0 (later_words action.0.1)) _ op invoked.2 in
     let none = bind_ok (end_of end.0.1) (λ _. Ok (record { number = number.0; client = client.0; action = action.0.0; invoked = invoked.0; end = end.0.0 })) op end.2 in
     let n = number_first (last + 1) (min (last + 1) MAX_COUNT) words number.0 (omega arith) number.1 in
     let c = number_first 1 MAX_COUNT second client.0 (omega arith) client.1 in
-    let a = action_takes (later_words second) action.0 action.1 in
+    let a = action_takes All MAX_COUNT (later_words second) action.0 (omega arith) action.1 in
     let i = number_first (step + 1) LAST_STEP action.0.1 invoked.0 (omega arith) invoked.1 in
     let t = end_takes action.0.0 invoked.0 (later_words action.0.1) end.0 end.1 in
     let rest : later_words action.0.1 ≡ end_words end.0.0 = t.row ∙ ap (λ (ws : List (List ℕ)). end_words end.0.0 ++ ws) (slots.end_takes end.0.1 none.0 none.1) ∙ append-nil (end_words end.0.0) in
@@ -91,6 +94,18 @@ pub operations_take : (number : ℕ) (lines : List OpenLine) (read : List Operat
     → AreLinesOf operation_lines operation_row FitsAfter (record { number = 0; step = 0 }) lines read
 operations_take number lines read e = items_take operation_lines operation_row FitsAfter AnyBefore operation_line_takes (λ before op holds. tt) (record { number = 0; step = 0 }) number lines read tt e
 
+-- an action in range has a key of its own kind
+own_key : (action : Action) → IsTextAction MAX_COUNT action → IsTrue (is_own_key action)
+own_key (asked.Put key value) fits = fits.0.kind
+own_key (asked.Get key) fits = refl
+own_key (asked.Delete key) fits = fits.kind
+own_key (asked.Collect key) fits = refl
+own_key (asked.Swap key expected value) fits = fits.0.kind
+
+pub own_keys : (step : ℕ) (ops : List Operation) → AreTextOperations step ops → AllByRecursion (λ op. IsTrue (is_own_key op.action)) ops
+own_keys step [] range = tt
+own_keys step (op ∷ ops) range = (own_key op.action range.0.action, own_keys op.invoked ops range.1)
+
 -- what each operation fits makes a history of them
 pub record AreOperations (before : Before) (ops : List Operation) : Type 0 where
   pub numbered : IsNumberedFrom (before.number + 1) ops
@@ -110,7 +125,7 @@ operations_from_fits before (op ∷ ops) fits =
 pub is_history : (number : ℕ) (lines : List OpenLine) (read : List Operation × Rest) → items_from operation_lines (record { number = 0; step = 0 }) number lines ≡ Ok read → IsHistory read.0
 is_history number lines read e =
     let all = operations_from_fits (record { number = 0; step = 0 }) read.0 (operations_take number lines read e).fits in
-    record { numbered = all.numbered; ends = all.ends }
+    record { numbered = all.numbered; keys = own_keys 0 read.0 all.range; ends = all.ends }
 
 -- ---- an operation is read again
 
@@ -130,7 +145,7 @@ operation_again before op fits =
     let invoked_high : op.invoked ≤ LAST_STEP = range.invoked_high in
     let number = number_after_again before.number op.number fits.number range.number in
     let client = number_again 1 MAX_COUNT op.client (omega arith) client_low client_high in
-    let action = action_again op.action (decimal op.invoked ∷ end_words op.end) range.action in
+    let action = action_again All MAX_COUNT op.action (decimal op.invoked ∷ end_words op.end) (omega arith) refl range.action in
     let invoked = number_again (before.step + 1) LAST_STEP op.invoked (omega arith) invoked_low invoked_high in
     let end : end_from op.action op.invoked (end_words op.end) ≡ Ok (op.end, []) =
     ap (end_from op.action op.invoked) (sym (append-nil (end_words op.end))) ∙ end_again op.action op.invoked op.end [] range.end fits.can in

@@ -40,15 +40,15 @@ use Rattle.hy_order.specs.declared.operation.Operation.{Operation}
 use Rattle.hy_order.specs.declared.order.Order.{Order}
 use Rattle.hy_order.specs.declared.report.Report.{Report}
 use Rattle.hy_order.specs.History.{IsNumberedFrom}
-use Rattle.hy_order.specs.Keys.{insert_key, sorted_keys}
+use Rattle.hy_order.specs.Keys.{insert_key, sorted_keys, register_key, register_keys}
 use Rattle.hy_text.specs.Kind.{is_next_due, item_in, items_from, item_from, nothing_in}
 use Rattle.hy_text.specs.OpenLine.{OpenLine, Rest, opened}
 use Rattle.hy_order.specs.Report.{operation_row, order_row, held_row, end_row, report_rows, report_text, reply_words, end_words}
-use Rattle.hy_order.specs.ReportRanges.{IsReport, IsTextStamp, IsTextReply, IsTextEnd, IsTextOperation, AreTextOperations, IsTextNumber, IsTextHeld, register_key, register_keys}
+use Rattle.hy_order.specs.ReportRanges.{IsReport, IsTextStamp, IsTextReply, IsTextEnd, IsTextOperation, AreTextOperations, IsTextNumber, IsTextHeld}
 use Rattle.hy_order.specs.ReportReading.{Before, Counts, counts_of_words, operation_lines, order_lines, held_lines, end_line, last_of, report_at, report_of}
 use Rattle.hy_order.proofs.HeldRows.{FitsAbove, helds_take, rising, ranges_taken, helds_fit, held_again}
 use Rattle.hy_text.proofs.ItemRows.{rows_in, all_ended, line_of_row, lines_written, lines_written-rows, text_of-rows, item_ok, state_after, items_again, none_left}
-use Rattle.hy_order.proofs.OperationRows.{FitsAfter, operations_take, operations_from_fits, operations_fit, operation_again}
+use Rattle.hy_order.proofs.OperationRows.{FitsAfter, own_keys, operations_take, operations_from_fits, operations_fit, operation_again}
 use Rattle.hy_order.proofs.OrderRows.{FitsKeys, AreKeys, no_key_due, orders_take, keys_taken, numbers_taken, orders_fit, order_again}
 use Rattle.hy_text.proofs.CloudWords.{is_word-clouds}
 use Rattle.hy_text.proofs.Groups.{number_first, phase_again, stamp_is_row, action_is_row}
@@ -99,11 +99,12 @@ last_again ops orders number few_ops few_orders =
 
 -- ---- keys
 
-key_is : (action : Action) (key : List ℕ) → IsTextAction action → register_key action ≡ Some key → IsTrue (is_key key)
-key_is (asked.Put own value) key fits e = let same : own ≡ key = cc in subst (λ (k : List ℕ). IsTrue (is_key k)) same fits.0
-key_is (asked.Get own) key fits e = let same : own ≡ key = cc in subst (λ (k : List ℕ). IsTrue (is_key k)) same fits
-key_is (asked.Delete own) key fits e = let same : own ≡ key = cc in subst (λ (k : List ℕ). IsTrue (is_key k)) same fits
+key_is : (action : Action) (key : List ℕ) → IsTextAction MAX_COUNT action → register_key action ≡ Some key → IsTrue (is_key key)
+key_is (asked.Put own value) key fits e = let same : own ≡ key = cc in subst (λ (k : List ℕ). IsTrue (is_key k)) same fits.0.key
+key_is (asked.Get own) key fits e = let same : own ≡ key = cc in subst (λ (k : List ℕ). IsTrue (is_key k)) same fits.key
+key_is (asked.Delete own) key fits e = let same : own ≡ key = cc in subst (λ (k : List ℕ). IsTrue (is_key k)) same fits.key
 key_is (asked.Collect own) key fits e = absurd cc
+key_is (asked.Swap own expected value) key fits e = let same : own ≡ key = cc in subst (λ (k : List ℕ). IsTrue (is_key k)) same fits.0.key
 
 with_key : (key : Option (List ℕ)) (op : Operation) (ops : List Operation) → register_key op.action ≡ key → ((k : List ℕ) → key ≡ Some k → IsTrue (is_key k)) → AreKeys (register_keys ops) → AreKeys (register_keys (op ∷ ops))
 with_key None op ops e is are = rw e are
@@ -206,7 +207,7 @@ report_lines_take number lines report e =
       rows = h.rows ∙ ap (λ (rows : List (List (List ℕ))). map operation_row ops ++ rows) (o.rows ∙ ap (λ (rows : List (List (List ℕ))). map order_row orders.0.0 ++ rows) held_rows);
       ended = h.ended (o.ended (c.ended l.ended));
       fits = record {
-        history = record { numbered = all.numbered; ends = all.ends };
+        history = record { numbered = all.numbered; keys = own_keys 0 ops all.range; ends = all.ends };
         operations = all.range;
         keys = keys_are;
         orders = numbers_taken keys orders.0.0 o.fits;
@@ -232,6 +233,8 @@ reply_is_row (told.Done stamp) fits = stamps_are_words stamp fits
 reply_is_row (told.Exhausted stamp) fits = stamps_are_words stamp fits
 reply_is_row (told.Value value stamp) fits = rw (is_word-value_word value) (stamps_are_words stamp fits.1)
 reply_is_row (told.Absent stamp) fits = stamps_are_words stamp fits
+reply_is_row (told.Swapped stamp) fits = stamps_are_words stamp fits
+reply_is_row (told.Changed stamp) fits = stamps_are_words stamp fits
 reply_is_row (told.Collected count) fits = rw (is_word-decimal count (omega (arith, fits))) refl
 
 end_is_row : (invoked : ℕ) (end : End) → IsTextEnd invoked end → list_all is_word (end_words end) ≡ true
@@ -241,7 +244,7 @@ end_is_row invoked (Pending at have need) fits = rw ((phase_again at).1, is_word
 operation_is_row : (step : ℕ) (op : Operation) → IsTextOperation step op → is_row (operation_row op) ≡ true
 operation_is_row step op fits =
     let invoked : list_all is_word (decimal op.invoked ∷ end_words op.end) ≡ true = rw (is_word-decimal op.invoked (omega (arith, fits.invoked_high))) (end_is_row op.invoked op.end fits.end) in
-    rw (is_word-decimal op.number (omega (arith, fits.number)), is_word-decimal op.client (omega (arith, fits.client_high))) (action_is_row op.action (decimal op.invoked ∷ end_words op.end) fits.action invoked)
+    rw (is_word-decimal op.number (omega (arith, fits.number)), is_word-decimal op.client (omega (arith, fits.client_high))) (action_is_row MAX_COUNT op.action (decimal op.invoked ∷ end_words op.end) (omega arith) fits.action invoked)
 
 operations_are_rows : (step : ℕ) (ops : List Operation) (rest : List (List (List ℕ))) → AreTextOperations step ops → list_all is_row rest ≡ true → list_all is_row (map operation_row ops ++ rest) ≡ true
 operations_are_rows step [] rest fits more = more

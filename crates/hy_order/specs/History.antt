@@ -1,6 +1,7 @@
 -- Histories: operations numbered from 1, each with an end that its action can have.
-use Rattle.std.specs.Prelude.{◌≡◌, ℕ, ◌+◌, Bool, true, false, IsTrue, List, [], ◌∷◌}
+use Rattle.std.specs.Prelude.{◌≡◌, ℕ, ◌+◌, Bool, true, false, not, IsTrue, List, [], ◌∷◌}
 use Rattle.std.specs.List.{AllByRecursion}
+use Rattle.hy_record.specs.Key.{is_cell}
 use Rattle.hy_record.specs.declared.action.Action.{Action}
 use Rattle.hy_record.specs.declared.action.Action.TheVariants as asked
 use Rattle.hy_record.specs.declared.action.Reply.{Reply}
@@ -17,6 +18,15 @@ key_of_action (asked.Put key value) = key
 key_of_action (asked.Get key) = key
 key_of_action (asked.Delete key) = key
 key_of_action (asked.Collect key) = key
+key_of_action (asked.Swap key expected value) = key
+
+-- swaps alone write a cell key, and write no other
+abbrev pub is_own_key : Action → Bool
+is_own_key (asked.Put key value) = not (is_cell key)
+is_own_key (asked.Delete key) = not (is_cell key)
+is_own_key (asked.Swap key expected value) = is_cell key
+is_own_key (asked.Get key) = true
+is_own_key (asked.Collect key) = true
 
 -- the reply is one that the action can have
 abbrev pub is_reply_of : Action → Reply → Bool
@@ -27,6 +37,9 @@ is_reply_of (asked.Delete key) (told.Exhausted stamp) = true
 is_reply_of (asked.Get key) (told.Value value stamp) = true
 is_reply_of (asked.Get key) (told.Absent stamp) = true
 is_reply_of (asked.Collect key) (told.Collected count) = true
+is_reply_of (asked.Swap key expected value) (told.Swapped stamp) = true
+is_reply_of (asked.Swap key expected value) (told.Changed stamp) = true
+is_reply_of (asked.Swap key expected value) (told.Exhausted stamp) = true
 is_reply_of action reply = false
 
 -- the phase is one that the action can be in
@@ -43,6 +56,9 @@ is_phase_of (asked.Get key) phase.Reread = true
 is_phase_of (asked.Collect key) phase.Olds = true
 is_phase_of (asked.Collect key) phase.Drop = true
 is_phase_of (asked.Collect key) phase.Forget = true
+is_phase_of (asked.Swap key expected value) phase.Read = true
+is_phase_of (asked.Swap key expected value) phase.Store = true
+is_phase_of (asked.Swap key expected value) phase.Update = true
 is_phase_of action at = false
 
 -- the end is one that the action can have
@@ -55,7 +71,8 @@ abbrev pub IsNumberedFrom : ℕ → List Operation → Type 0
 IsNumberedFrom number [] = Unit {0}
 IsNumberedFrom number (op ∷ ops) = (op.number ≡ number) × IsNumberedFrom (number + 1) ops
 
--- numbered from 1, each with an end that its action can have
+-- numbered from 1, each on a key of its own kind, with an end that its action can have
 pub record IsHistory (ops : List Operation) : Type 0 where
   pub numbered : IsNumberedFrom 1 ops
+  pub keys : AllByRecursion (λ op. IsTrue (is_own_key op.action)) ops
   pub ends : AllByRecursion (λ op. IsTrue (is_end_of op.action op.end)) ops

@@ -4,7 +4,7 @@ use Rattle.std.specs.List.{AllByRecursion, list_any}
 use Rattle.hy_order.specs.declared.operation.Operation.{Operation}
 use Rattle.hy_order.specs.declared.order.Order.{Order}
 use Rattle.hy_order.specs.Checking.{IsPlace, is_marked}
-use Rattle.hy_order.specs.Linearization.{listed}
+use Rattle.hy_order.specs.Linearization.{no_register, listed}
 use Rattle.hy_order.specs.Violation.{is_listed, stranger_number, repeated_number, early_numbers, wrong_number}
 use Rattle.hy_order.specs.WordReaders.{is_above}
 
@@ -13,7 +13,7 @@ pub record IsSound (ops : List Operation) (order : Order) : Type 0 where
   pub stranger : stranger_number ops order.key order.ops ≡ None
   pub twice : repeated_number order.ops ≡ None
   pub early : early_numbers (listed ops order.ops) ≡ None
-  pub wrong : wrong_number None (listed ops order.ops) ≡ None
+  pub wrong : wrong_number no_register (listed ops order.ops) ≡ None
 
 -- one of the orders lists the number
 abbrev pub is_listed_among : List Order → ℕ → Bool

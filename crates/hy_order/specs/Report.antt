@@ -24,6 +24,8 @@ reply_words (told.Exhausted stamp) = codes "exhausted" ∷ stamp_words stamp
 reply_words (told.Value value stamp) = codes "value" ∷ value_word value ∷ stamp_words stamp
 reply_words (told.Absent stamp) = codes "none" ∷ stamp_words stamp
 reply_words (told.Collected count) = codes "collected" ∷ decimal count ∷ []
+reply_words (told.Swapped stamp) = codes "swapped" ∷ stamp_words stamp
+reply_words (told.Changed stamp) = codes "changed" ∷ stamp_words stamp
 
 -- the words of an end: where it replied and what, or a dash, the phase, and what it has and needs
 abbrev pub end_words : End → List (List ℕ)

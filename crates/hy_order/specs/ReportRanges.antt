@@ -21,18 +21,7 @@ use Rattle.hy_order.specs.declared.order.Order.{Order}
 use Rattle.hy_order.specs.declared.report.Report.{Report}
 use Rattle.hy_order.specs.declared.report.TheConstants.{LAST_STEP}
 use Rattle.hy_order.specs.History.{IsHistory}
-use Rattle.hy_order.specs.Keys.{sorted_keys}
-
--- the key of a put, a get or a delete
-abbrev pub register_key : Action → Option (List ℕ)
-register_key (asked.Put key value) = Some key
-register_key (asked.Get key) = Some key
-register_key (asked.Delete key) = Some key
-register_key (asked.Collect key) = None
-
--- the keys that a put, a get or a delete of the history names, in the order of the history
-abbrev pub register_keys : List Operation → List (List ℕ)
-register_keys ops = filter_map (λ (op : Operation). register_key op.action) ops
+use Rattle.hy_order.specs.Keys.{register_keys, sorted_keys}
 
 -- the numbers of the timestamp are in range
 abbrev pub IsTextStamp : Timestamp → Type 0
@@ -45,6 +34,8 @@ IsTextReply (told.Exhausted stamp) = IsTextStamp stamp
 IsTextReply (told.Value value stamp) = IsTextValue value × IsTextStamp stamp
 IsTextReply (told.Absent stamp) = IsTextStamp stamp
 IsTextReply (told.Collected count) = count ≤ MAX_COUNT
+IsTextReply (told.Swapped stamp) = IsTextStamp stamp
+IsTextReply (told.Changed stamp) = IsTextStamp stamp
 
 -- the end of an operation that was invoked at this step is in range; a reply came later
 abbrev pub IsTextEnd : ℕ → End → Type 0
@@ -56,7 +47,7 @@ pub record IsTextOperation (step : ℕ) (op : Operation) : Type 0 where
   pub number : op.number ≤ MAX_COUNT
   pub client_low : 1 ≤ op.client
   pub client_high : op.client ≤ MAX_COUNT
-  pub action : IsTextAction op.action
+  pub action : IsTextAction MAX_COUNT op.action
   pub invoked_low : step < op.invoked
   pub invoked_high : op.invoked ≤ LAST_STEP
   pub end : IsTextEnd op.invoked op.end
@@ -76,7 +67,7 @@ pub record IsTextHeld (held : Held) : Type 0 where
   pub stamp : IsTextStamp held.stamp
   pub clouds : held.clouds < 2 ^ MAX_N
 
--- all of the report is in range; there is an order for each key that a put, a get or a delete names, by the keys' order,
+-- all of the report is in range; there is an order for each key that a put, a get, a delete or a swap names, by the keys' order,
 -- and the keys of the retrievable copies increase
 pub record IsReport (report : Report) : Type 0 where
   pub history : IsHistory report.history

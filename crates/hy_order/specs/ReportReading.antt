@@ -7,6 +7,7 @@ use Rattle.hy_base.specs.declared.fault.TextFault.{TextFault}
 use Rattle.hy_base.specs.Results.{◌>>=◌}
 use Rattle.hy_base.specs.declared.limits.TheConstants.{MAX_COUNT}
 use Rattle.hy_text.specs.Action.{action_from}
+use Rattle.hy_text.specs.declared.action.Verbs.TheVariants.{All}
 use Rattle.hy_text.specs.Kind.{Kind, items_from, item_from, nothing_in}
 use Rattle.hy_text.specs.OpenLine.{OpenLine, Rest, opened}
 use Rattle.hy_text.specs.Line.{lines_of, first_word, later_words}
@@ -16,8 +17,7 @@ use Rattle.hy_order.specs.declared.operation.Operation.{Operation}
 use Rattle.hy_order.specs.declared.order.Order.{Order}
 use Rattle.hy_order.specs.declared.report.Report.{Report}
 use Rattle.hy_order.specs.declared.report.TheConstants.{LAST_STEP}
-use Rattle.hy_order.specs.Keys.{sorted_keys}
-use Rattle.hy_order.specs.ReportRanges.{register_keys}
+use Rattle.hy_order.specs.Keys.{register_keys, sorted_keys}
 use Rattle.hy_order.specs.WordReaders.{number_after, due_key, key_above, store_clouds_of, any_stamp_from, end_from, numbers_of}
 
 -- ---- the words of a line
@@ -27,7 +27,7 @@ unfoldable pub operation_of_words : ℕ → ℕ → List (List ℕ) → Result O
 operation_of_words last step words =
     number_after last (first_word words) >>= λ number.
     number_of 1 MAX_COUNT (first_word (later_words words)) >>= λ client.
-    action_from (later_words (later_words words)) >>= λ action.
+    action_from All MAX_COUNT (later_words (later_words words)) >>= λ action.
     number_of (step + 1) LAST_STEP (first_word action.1) >>= λ invoked.
     end_from action.0 invoked (later_words action.1) >>= λ end.
     end_of end.1 >>= λ _.

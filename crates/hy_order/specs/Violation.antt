@@ -3,6 +3,9 @@ use Rattle.std.specs.Prelude.{ℕ, ◌==◌, Bool, true, false, ◌&&◌, not, i
 use Rattle.std.specs.List.{find, list_any}
 use Rattle.std.specs.Option.{option_map, option_or, option_map_or}
 use Rattle.std.specs.Str.{bytes_eq}
+use Rattle.hy_record.specs.Stamp.{Timestamp, stamp_eq}
+use Rattle.hy_record.specs.declared.action.Action.{Action}
+use Rattle.hy_record.specs.declared.action.Action.TheVariants as asked
 use Rattle.hy_record.specs.declared.action.Reply.TheVariants as told
 use Rattle.hy_order.specs.declared.verdict.Verdict.{Verdict}
 use Rattle.hy_order.specs.declared.verdict.Verdict.TheVariants.{Legal, Missing, Stranger, Twice, Early, Wrong}
@@ -10,7 +13,7 @@ use Rattle.hy_order.specs.declared.operation.End.{End}
 use Rattle.hy_order.specs.declared.operation.End.TheVariants.{Replied, Pending}
 use Rattle.hy_order.specs.declared.operation.Operation.{Operation}
 use Rattle.hy_order.specs.declared.order.Order.{Order}
-use Rattle.hy_order.specs.Linearization.{is_of_key, is_finished, may_be_listed, returned_before, register_after, operation_at, listed}
+use Rattle.hy_order.specs.Linearization.{is_of_key, is_finished, may_be_listed, returned_before, Register, no_register, register_after, operation_at, listed}
 
 -- the number stands in the list
 abbrev pub is_listed : List ℕ → ℕ → Bool
@@ -50,25 +53,51 @@ early_numbers [] = None
 early_numbers (op ∷ later) =
     option_or (option_map (λ earlier. (earlier, op.number)) (returned_number op.invoked later)) (early_numbers later)
 
--- the register holds the value
+-- the value is this one
 abbrev pub is_held : Option (List ℕ) → List ℕ → Bool
 is_held None value = false
 is_held (Some held) value = bytes_eq held value
 
--- a reply that tells a value or its absence tells what the register holds
-abbrev pub tells_register : Option (List ℕ) → End → Bool
-tells_register held (Replied at (told.Value value stamp)) = is_held held value
-tells_register held (Replied at (told.Absent stamp)) = is_none held
-tells_register held (Replied at (told.Done stamp)) = true
-tells_register held (Replied at (told.Exhausted stamp)) = true
-tells_register held (Replied at (told.Collected count)) = true
-tells_register held (Pending phase have need) = true
+-- the timestamp is that of the register, where that is known
+abbrev pub is_stamp_of : Option Timestamp → Timestamp → Bool
+is_stamp_of None stamp = true
+is_stamp_of (Some held) stamp = stamp_eq held stamp
 
--- the number of the first operation whose reply does not tell what the register holds at its place
-abbrev pub wrong_number : Option (List ℕ) → List Operation → Option ℕ
+-- a reply that tells a value or its absence tells what the register holds
+abbrev pub tells_value : Register → End → Bool
+tells_value held (Replied at (told.Value value stamp)) = is_held held.value value
+tells_value held (Replied at (told.Absent stamp)) = is_none held.value
+tells_value held (Replied at (told.Done stamp)) = true
+tells_value held (Replied at (told.Exhausted stamp)) = true
+tells_value held (Replied at (told.Collected count)) = true
+tells_value held (Replied at (told.Swapped stamp)) = true
+tells_value held (Replied at (told.Changed stamp)) = true
+tells_value held (Pending phase have need) = true
+
+-- a swap with this end finds the register as it says: of the expected timestamp; or of the one that it replied, which is another
+abbrev pub finds_stamp : Register → Timestamp → End → Bool
+finds_stamp held expected (Replied at (told.Swapped stamp)) = is_stamp_of held.stamp expected
+finds_stamp held expected (Replied at (told.Changed stamp)) = not (stamp_eq stamp expected) && is_stamp_of held.stamp stamp
+finds_stamp held expected (Replied at (told.Done stamp)) = true
+finds_stamp held expected (Replied at (told.Exhausted stamp)) = true
+finds_stamp held expected (Replied at (told.Value value stamp)) = true
+finds_stamp held expected (Replied at (told.Absent stamp)) = true
+finds_stamp held expected (Replied at (told.Collected count)) = true
+finds_stamp held expected (Pending phase have need) = is_stamp_of held.stamp expected
+
+-- the operation tells what the register holds: a get its value, a swap its timestamp
+abbrev pub tells_register : Register → Action → End → Bool
+tells_register held (asked.Put key value) end = tells_value held end
+tells_register held (asked.Delete key) end = tells_value held end
+tells_register held (asked.Get key) end = tells_value held end
+tells_register held (asked.Collect key) end = tells_value held end
+tells_register held (asked.Swap key expected value) end = finds_stamp held expected end
+
+-- the number of the first operation that does not tell what the register holds at its place
+abbrev pub wrong_number : Register → List Operation → Option ℕ
 wrong_number held [] = None
 wrong_number held (op ∷ later) =
-    if tells_register held op.end then wrong_number (register_after op.action held) later else Some op.number
+    if tells_register held op.action op.end then wrong_number (register_after op.action op.end held) later else Some op.number
 
 -- the first violation of an order of the key, in the order of the verdicts
 unfoldable pub first_violation : List Operation → List ℕ → List ℕ → Verdict
@@ -77,7 +106,7 @@ first_violation history key order =
     (option_map_or Stranger (stranger_number history key order)
     (option_map_or Twice (repeated_number order)
     (option_map_or (λ (pair : ℕ × ℕ). Early pair.0 pair.1) (early_numbers (listed history order))
-    (option_map_or Wrong (wrong_number None (listed history order)) Legal))))
+    (option_map_or Wrong (wrong_number no_register (listed history order)) Legal))))
 
 -- the verdict of an order without a violation
 abbrev pub is_legal : Verdict → Bool

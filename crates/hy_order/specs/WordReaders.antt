@@ -84,12 +84,21 @@ collect_reply_from words =
     (number_of 0 MAX_COUNT (first_word (later_words words)) >>= λ count. Ok (told.Collected count, later_words (later_words words)))
     else Err BadWord
 
+-- the reply of a swap
+unfoldable pub swap_reply_from : List (List ℕ) → Result (Reply × List (List ℕ)) Cause
+swap_reply_from words =
+    if bytes_eq (first_word words) (codes "swapped") then (any_stamp_from (later_words words) >>= λ stamp. Ok (told.Swapped stamp.0, stamp.1))
+    else if bytes_eq (first_word words) (codes "changed") then (any_stamp_from (later_words words) >>= λ stamp. Ok (told.Changed stamp.0, stamp.1))
+    else if bytes_eq (first_word words) (codes "exhausted") then (any_stamp_from (later_words words) >>= λ stamp. Ok (told.Exhausted stamp.0, stamp.1))
+    else Err BadWord
+
 -- a reply that the action can have
 abbrev pub reply_from : Action → List (List ℕ) → Result (Reply × List (List ℕ)) Cause
 reply_from (asked.Put key value) words = write_reply_from words
 reply_from (asked.Get key) words = get_reply_from words
 reply_from (asked.Delete key) words = write_reply_from words
 reply_from (asked.Collect key) words = collect_reply_from words
+reply_from (asked.Swap key expected value) words = swap_reply_from words
 
 -- the end of an operation that has no reply yet, after its dash
 unfoldable pub pending_from : Action → List (List ℕ) → Result (End × List (List ℕ)) Cause

@@ -27,11 +27,12 @@ pub(crate) fn key_of_action(action: &Action) -> &Key
         Action::Put { key, .. }
         | Action::Get { key }
         | Action::Delete { key }
-        | Action::Collect { key } => key,
+        | Action::Collect { key }
+        | Action::Swap { key, .. } => key,
     }
 }
 
-/// Whether it is the end of a finished put, get or delete, which each order of the key has to list.
+/// Whether it is the end of a finished put, get, delete or swap, which each order of the key has to list.
 pub fn is_finished(end: &End) -> bool
     ensures { result ≡ is_finished end.now }
 {
@@ -41,20 +42,26 @@ pub fn is_finished(end: &End) -> bool
     }
 }
 
-/// Whether it is the reply of a put, get or delete that finished.
+/// Whether it is the reply of a put, get, delete or swap that finished.
 fn is_finished_reply(reply: &Reply) -> bool
     ensures { result ≡ is_finished_reply reply.now }
 {
-    matches!(reply, Reply::Done(_) | Reply::Value(..) | Reply::Absent(_))
+    matches!(
+        reply,
+        Reply::Done(_) | Reply::Value(..) | Reply::Absent(_) | Reply::Swapped(_) | Reply::Changed(_)
+    )
 }
 
-/// Whether an order of its key may list the operation: a finished put, get or delete, or an unfinished
-/// put or delete.
+/// Whether an order of its key may list the operation: a finished put, get, delete or swap, or an unfinished
+/// put, delete or swap.
 pub(crate) fn may_be_listed(op: &Operation) -> bool
     ensures { result ≡ may_be_listed op.now.action op.now.end }
 {
     match &op.end {
         End::Replied { reply, .. } => is_finished_reply(reply),
-        End::Pending { .. } => matches!(op.action, Action::Put { .. } | Action::Delete { .. }),
+        End::Pending { .. } => matches!(
+            op.action,
+            Action::Put { .. } | Action::Delete { .. } | Action::Swap { .. }
+        ),
     }
 }

@@ -7,7 +7,7 @@ ghost use Rattle.std.specs.Prelude.{◌≡◌};
 pub enum Verdict {
     /// It is a linearization.
     Legal,
-    /// This finished put, get or delete of the key is not listed, and none with a lower number.
+    /// This finished put, get, delete or swap of the key is not listed, and none with a lower number.
     Missing(u32),
     /// This listed number is the first that is of no operation, or of one that an order of the key may
     /// not list.
@@ -17,7 +17,8 @@ pub enum Verdict {
     /// The second is the first listed operation after which one stands that returned before it was
     /// invoked; the first is the first such one.
     Early(u32, u32),
-    /// This get is the first that answers other than the last write before it left.
+    /// This get or swap is the first that tells another value, or another timestamp, than the last write
+    /// before it left.
     Wrong(u32),
 }
 

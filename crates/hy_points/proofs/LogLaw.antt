@@ -10,7 +10,7 @@ use Rattle.hy_record.specs.Stamp.{Timestamp, stamp_lt}
 use Rattle.hy_record.proofs.Order.{key_eq-true, key_eq-same, stamp_le-lt, stamp_lt-other}
 use Rattle.hy_points.specs.declared.mark.Mark.{Mark}
 use Rattle.hy_points.specs.declared.point.ActKind.{ActKind}
-use Rattle.hy_points.specs.declared.point.ActKind.TheVariants.{Put, Get, Delete}
+use Rattle.hy_points.specs.declared.point.ActKind.TheVariants.{Put, Get, Delete, Swap}
 use Rattle.hy_points.specs.declared.point.Point.{Point}
 use Rattle.hy_points.specs.declared.point.Point.TheVariants.{Begin, End}
 use Rattle.hy_points.specs.declared.telling.Asking.{Asking}
@@ -198,6 +198,7 @@ module _ (log : List Point) (atomic : IsAtomicLog log) (once : AsksOnce log) (ke
           by_act Put is = ap (write_mark log key a.op) has
           by_act Delete is = ap (write_mark log key a.op) has
           by_act Get is = cc
+          by_act (Swap expected) is = cc
 
           by_begun : (o : Option Beginning) → beginning log a.op ≡ o → option_map_or (λ (b : Beginning). key_eq b.key key) o false ≡ true → IsWrittenIn stamp_of reads_of place_of in_order stamp
           by_begun None is e = cc
@@ -250,6 +251,7 @@ module _ (log : List Point) (atomic : IsAtomicLog log) (once : AsksOnce log) (ke
           let m = read-marked (has_ended log op) e (asking log op) a.0 a.1 in
           (m.0, ap (operation_mark log key op) same ∙ m.1, m.2))
       marked Put begun same e = (let m = write-marked (setting log op) e in (m.0, ap (operation_mark log key op) same ∙ m.1, m.2))
+      marked (Swap expected) begun same e = absurd cc
       marked Delete begun same e = (let m = write-marked (setting log op) e in (m.0, ap (operation_mark log key op) same ∙ m.1, m.2))
 
   member : (m : Mark) → IsMarkOf log key m → IsListed log key m.op
@@ -274,6 +276,7 @@ module _ (log : List Point) (atomic : IsAtomicLog log) (once : AsksOnce log) (ke
       by_act Put is e = e
       by_act Delete is e = e
       by_act Get is e = cc
+      by_act (Swap expected) is e = cc
 
   keeps-time : (ms : List Mark) → RespectsTime stamp_of reads_of place_of (came log) ms → KeepsTime log (map op_of ms)
   keeps-time [] timely = tt

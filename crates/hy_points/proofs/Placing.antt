@@ -10,7 +10,7 @@ use Rattle.hy_record.specs.Stamp.{Timestamp, stamp_lt}
 use Rattle.hy_record.proofs.Order.{key_eq-true, key_eq-same, stamp_lt-same, stamp_lt-le, stamp_le-lt}
 use Rattle.hy_points.specs.declared.mark.Mark.{Mark}
 use Rattle.hy_points.specs.declared.point.ActKind.{ActKind}
-use Rattle.hy_points.specs.declared.point.ActKind.TheVariants.{Put, Get, Delete}
+use Rattle.hy_points.specs.declared.point.ActKind.TheVariants.{Put, Get, Delete, Swap}
 use Rattle.hy_points.specs.declared.point.Point.{Point}
 use Rattle.hy_points.specs.declared.point.Point.TheVariants.{Begin, Ask, Set, End}
 use Rattle.hy_points.specs.declared.telling.Asking.{Asking}
@@ -305,6 +305,7 @@ mark-of log atomic key place (Begin op client k act) m there is = by_test (key_e
     by_act Get e f of = reads (asking log op) refl (has_ended log op) refl f of e
     by_act Put e f of = writes_ (setting log op) refl f of (ap writes e)
     by_act Delete e f of = writes_ (setting log op) refl f of (ap writes e)
+    by_act (Swap expected) e f of = absurd (none-some m f)
 
     by_test : (b : Bool) → key_eq k key ≡ b → cond b (operation_mark log key op act) None ≡ Some m → IsMarkOf log key m × ((c : ℕ) × (a : ActKind) × (Begin op client k act ≡ Begin m.op c key a))
     by_test false same e = absurd (none-some m e)

@@ -10,7 +10,7 @@ use Rattle.hy_record.specs.Key.{key_eq}
 use Rattle.hy_record.specs.Stamp.{Timestamp, stamp_lt, next_stamp}
 use Rattle.hy_record.proofs.Order.{key_eq-true, key_eq-same}
 use Rattle.hy_points.specs.declared.point.ActKind.{ActKind}
-use Rattle.hy_points.specs.declared.point.ActKind.TheVariants.{Put, Get, Delete}
+use Rattle.hy_points.specs.declared.point.ActKind.TheVariants.{Put, Get, Delete, Swap}
 use Rattle.hy_points.specs.declared.point.Point.{Point}
 use Rattle.hy_points.specs.declared.point.Point.TheVariants.{Begin, Ask, Set, End}
 use Rattle.hy_points.specs.declared.telling.Asking.{Asking}
@@ -353,6 +353,7 @@ module _ {M : Type 0} (step : M → ℕ) (point : M → Point) (Is : Run → Typ
         may Get client of returns = (let a = asked-may returns.0 returns.1 in (a.0, a.1))
         may Put client of returns = write-may client of returns
         may Delete client of returns = write-may client of returns
+        may (Swap expected) client of returns = returns
 
     point-fits : (run : Run) → Is run → (q : Point) → IsPointOf run (step m) q → Fits (take i log) q
     point-fits run is (Begin op client key act) of = subst (λ (o : ℕ). FitsBegin (take i log) o client) (sym of.0) (begin-fits i m here run is (sym of.4) client of.1)

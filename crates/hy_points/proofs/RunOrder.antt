@@ -10,7 +10,7 @@ use Rattle.hy_record.specs.Stamp.{Timestamp, stamp_lt}
 use Rattle.hy_record.proofs.Order.{key_eq-same}
 use Rattle.hy_points.specs.declared.mark.Mark.{Mark}
 use Rattle.hy_points.specs.declared.point.ActKind.{ActKind}
-use Rattle.hy_points.specs.declared.point.ActKind.TheVariants.{Put, Get, Delete}
+use Rattle.hy_points.specs.declared.point.ActKind.TheVariants.{Put, Get, Delete, Swap}
 use Rattle.hy_points.specs.declared.point.Point.{Point}
 use Rattle.hy_points.specs.declared.point.Point.TheVariants.{Begin, Ask, Set, End}
 use Rattle.hy_points.specs.declared.telling.Setting.{Setting}
@@ -36,6 +36,7 @@ abbrev pub stamp_by : ActKind → Option Reading → Option Writing → Timestam
 stamp_by Get asked set = option_map_or (λ (r : Reading). r.found) asked no_stamp
 stamp_by Put asked set = option_map_or (λ (w : Writing). w.stamp) set no_stamp
 stamp_by Delete asked set = option_map_or (λ (w : Writing). w.stamp) set no_stamp
+stamp_by (Swap expected) asked set = no_stamp
 
 abbrev pub run_stamp : Run → Timestamp
 run_stamp run = stamp_by run.act run.asked run.set
@@ -92,6 +93,7 @@ module _ (run : Run) where
   write-by Put is = refl
   write-by Delete is = refl
   write-by Get is = cc
+  write-by (Swap expected) is = cc
 
   pub write-stamp : (w : IsListedWrite run) → run_stamp run ≡ w.writing.stamp
   write-stamp w = write-by run.act w.act ∙ ap (λ (o : Option Writing). option_map_or (λ (x : Writing). x.stamp) o no_stamp) w.set
@@ -283,6 +285,7 @@ module _ {M : Type 0} (step : M → ℕ) (point : M → Point) (Is : Run → Typ
         by_act Put is e = e
         by_act Delete is e = e
         by_act Get is e = cc
+        by_act (Swap expected) is e = cc
 
     -- ---- no two runs stand each before the other
 

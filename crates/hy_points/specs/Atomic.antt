@@ -5,7 +5,7 @@ use Rattle.hy_record.specs.Stamp.{Timestamp, stamp_lt, next_stamp}
 use Rattle.hy_points.specs.declared.telling.Asking.{Asking}
 use Rattle.hy_points.specs.declared.telling.Setting.{Setting}
 use Rattle.hy_points.specs.declared.point.ActKind.{ActKind}
-use Rattle.hy_points.specs.declared.point.ActKind.TheVariants.{Put, Get, Delete}
+use Rattle.hy_points.specs.declared.point.ActKind.TheVariants.{Put, Get, Delete, Swap}
 use Rattle.hy_points.specs.declared.point.Point.{Point}
 use Rattle.hy_points.specs.declared.point.Point.TheVariants.{Begin, Ask, Set, End}
 use Rattle.hy_points.specs.Lookups.{Beginning, beginning, asking, last_asking, setting, has_ended, is_of_key}
@@ -40,6 +40,7 @@ abbrev pub writes : ActKind → Bool
 writes Put = true
 writes Delete = true
 writes Get = false
+writes (Swap expected) = false
 
 -- the operation began so, and has not returned
 pub record IsRunning (before : List Point) (op : ℕ) : Type 0 where
@@ -70,7 +71,8 @@ pub record FitsSet (before : List Point) (op : ℕ) (stamp : Timestamp) (applied
   pub next : next_stamp ask.found runs.begun.client ≡ Some stamp
   pub applies : applied ≡ stamp_lt (logged_stamp before runs.begun.key) stamp
 
--- a read returns once it has read; a write once it has written, or where no timestamp is above what it found
+-- a read returns once it has read; a write once it has written, or where no timestamp is above what it found;
+-- these logs have no point at which a swap writes, and none returns
 abbrev pub MayEnd : List Point → ℕ → ℕ → ActKind → Type 0
 MayEnd before op client Get = (ask : Asking) × (asking before op ≡ Some ask)
 MayEnd before op client Put =
@@ -79,6 +81,7 @@ MayEnd before op client Put =
 MayEnd before op client Delete =
     ((set : Setting) × (setting before op ≡ Some set))
     ⊎ ((ask : Asking) × (last_asking before op ≡ Some ask) × (next_stamp ask.found client ≡ None))
+MayEnd before op client (Swap expected) = ⊥
 
 pub record FitsEnd (before : List Point) (op : ℕ) : Type 0 where
   pub runs : IsRunning before op

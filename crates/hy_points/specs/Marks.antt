@@ -10,7 +10,7 @@ use Rattle.hy_points.specs.declared.telling.Asking.{Asking}
 use Rattle.hy_points.specs.declared.telling.Setting.{Setting}
 use Rattle.hy_points.specs.declared.mark.Mark.{Mark}
 use Rattle.hy_points.specs.declared.point.ActKind.{ActKind}
-use Rattle.hy_points.specs.declared.point.ActKind.TheVariants.{Put, Get, Delete}
+use Rattle.hy_points.specs.declared.point.ActKind.TheVariants.{Put, Get, Delete, Swap}
 use Rattle.hy_points.specs.declared.point.Point.{Point}
 use Rattle.hy_points.specs.declared.point.Point.TheVariants.{Begin, Ask, Set, End}
 use Rattle.std.specs.BTreeMap.{is_at}
@@ -57,6 +57,7 @@ abbrev pub operation_mark : List Point → List ℕ → ℕ → ActKind → Opti
 operation_mark log key op Get = read_mark (has_ended log op) op (asking log op)
 operation_mark log key op Put = write_mark log key op (setting log op)
 operation_mark log key op Delete = write_mark log key op (setting log op)
+operation_mark log key op (Swap expected) = None
 
 -- the mark of the operation that begins at the point, where it is one of the key
 abbrev pub point_mark : List Point → List ℕ → Point → Option Mark

@@ -7,7 +7,7 @@ use Rattle.hy_record.specs.Stamp.{Timestamp}
 use Rattle.hy_points.specs.declared.telling.Asking.{Asking}
 use Rattle.hy_points.specs.declared.telling.Setting.{Setting}
 use Rattle.hy_points.specs.declared.point.ActKind.{ActKind}
-use Rattle.hy_points.specs.declared.point.ActKind.TheVariants.{Put, Get, Delete}
+use Rattle.hy_points.specs.declared.point.ActKind.TheVariants.{Put, Get, Delete, Swap}
 use Rattle.hy_points.specs.declared.point.Point.{Point}
 use Rattle.hy_points.specs.Lookups.{Beginning, beginning, asking, setting, ending, has_ended}
 use Rattle.hy_points.specs.Atomic.{no_stamp, writes}
@@ -22,6 +22,7 @@ abbrev pub is_listed : List Point → ℕ → ActKind → Bool
 is_listed log op Get = has_ended log op
 is_listed log op Put = took_effect (has_ended log op) (setting log op)
 is_listed log op Delete = took_effect (has_ended log op) (setting log op)
+is_listed log op (Swap expected) = false
 
 -- the operation is one of the key, and an order of the key lists it
 pub record IsListed (log : List Point) (key : List ℕ) (op : ℕ) : Type 0 where

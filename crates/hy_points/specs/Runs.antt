@@ -2,7 +2,7 @@
 use Rattle.std.specs.Prelude.{◌≡◌, ℕ, ◌+◌, ◌<◌, ◌≤◌, Bool, true, false, List, Option, Some, None, ◌⊎◌}
 use Rattle.hy_record.specs.Stamp.{Timestamp, stamp_lt, next_stamp}
 use Rattle.hy_points.specs.declared.point.ActKind.{ActKind}
-use Rattle.hy_points.specs.declared.point.ActKind.TheVariants.{Put, Get, Delete}
+use Rattle.hy_points.specs.declared.point.ActKind.TheVariants.{Put, Get, Delete, Swap}
 use Rattle.hy_points.specs.declared.point.Point.{Point}
 use Rattle.hy_points.specs.declared.point.Point.TheVariants.{Begin, Ask, Set, End}
 use Rattle.hy_points.specs.Atomic.{no_stamp, writes}
@@ -41,6 +41,7 @@ abbrev pub MayReturn : Run → ActKind → Type 0
 MayReturn run Get = (r : Reading) × (run.asked ≡ Some r)
 MayReturn run Put = ((w : Writing) × (run.set ≡ Some w)) ⊎ ((r : Reading) × (run.asked ≡ Some r) × (next_stamp r.found run.client ≡ None))
 MayReturn run Delete = ((w : Writing) × (run.set ≡ Some w)) ⊎ ((r : Reading) × (run.asked ≡ Some r) × (next_stamp r.found run.client ≡ None))
+MayReturn run (Swap expected) = ⊥
 
 -- a reading that finds the record, of which this is the timestamp after each step
 pub record ReadsWell (record_at : List ℕ → ℕ → Timestamp) (run : Run) (r : Reading) : Type 0 where

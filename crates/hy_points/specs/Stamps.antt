@@ -4,6 +4,8 @@ use Rattle.std.specs.List.{filter}
 use Rattle.std.specs.Ordering.{nat_cmp, bool_cmp, ordering_then, on}
 use Rattle.std.specs.declared.cmp.Ordering.{Ordering}
 use Rattle.hy_record.specs.Stamp.{Timestamp, stamp_cmp, stamp_lt}
+use Rattle.hy_record.specs.declared.action.Action.{Action}
+use Rattle.hy_record.specs.declared.action.Action.TheVariants as asked
 use Rattle.hy_record.specs.declared.action.Reply.{Reply}
 use Rattle.hy_record.specs.declared.action.Reply.TheVariants as told
 use Rattle.hy_order.specs.Linearization.{is_of_key, is_finished, is_write, returned_before}
@@ -20,15 +22,24 @@ reply_stamp (told.Done stamp) = stamp
 reply_stamp (told.Value value stamp) = stamp
 reply_stamp (told.Absent stamp) = stamp
 reply_stamp (told.Exhausted stamp) = stamp
+reply_stamp (told.Swapped stamp) = stamp
+reply_stamp (told.Changed stamp) = stamp
 reply_stamp (told.Collected count) = no_stamp
 
 abbrev pub end_stamp : End → Timestamp
 end_stamp (Replied at reply) = reply_stamp reply
 end_stamp (Pending phase have need) = no_stamp
 
--- a finished put, get or delete of the key
+abbrev pub is_swap : Action → Bool
+is_swap (asked.Swap key expected value) = true
+is_swap (asked.Put key value) = false
+is_swap (asked.Get key) = false
+is_swap (asked.Delete key) = false
+is_swap (asked.Collect key) = false
+
+-- a finished put, get or delete of the key; an order by timestamp lists no swap
 abbrev pub is_told : List ℕ → Operation → Bool
-is_told key op = is_of_key key op && is_finished op.end
+is_told key op = is_of_key key op && is_finished op.end && not (is_swap op.action)
 
 -- what places an operation among others
 abbrev pub told_of : Operation → Told

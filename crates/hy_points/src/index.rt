@@ -82,6 +82,7 @@ impl<'a> LogIndex<'a> {
         match act {
             ActKind::Get => read_mark(op, self.has_ended(op), self.asking(op)),
             ActKind::Put | ActKind::Delete => self.write_mark(key, op),
+            ActKind::Swap(_) => None,
         }
     }
 

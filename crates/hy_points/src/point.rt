@@ -11,6 +11,8 @@ pub enum ActKind {
     Get,
     /// It makes the register absent.
     Delete,
+    /// It stores a value where the record has this timestamp.
+    Swap(Stamp),
 }
 
 /// A moment of an operation, which is named by its number.

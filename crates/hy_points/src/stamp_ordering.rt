@@ -7,6 +7,7 @@ ghost use Rattle.hy_points.specs.Atomic.{no_stamp};
 ghost use Rattle.hy_points.specs.Marks.{sorted_by};
 ghost use Rattle.hy_points.specs.Stamps.{
   end_stamp,
+  is_swap,
   is_told,
   reply_stamp,
   stamp_order,
@@ -60,7 +61,14 @@ fn told_of_key(alloc: Global, ops: &[Operation], key: &Key) -> Result<Vec<Told>,
 fn is_told(op: &Operation, key: &Key) -> bool
     ensures { result ≡ is_told key.now op.now }
 {
-    is_of_key(op, key) && is_finished(&op.end)
+    is_of_key(op, key) && is_finished(&op.end) && !is_swap(&op.action)
+}
+
+/// Whether it is a swap.
+fn is_swap(action: &Action) -> bool
+    ensures { result ≡ is_swap action.now }
+{
+    matches!(action, Action::Swap { .. })
 }
 
 /// What places the operation.
@@ -79,7 +87,10 @@ fn told_of(op: &Operation) -> Told
 fn is_write(action: &Action) -> bool
     ensures { result ≡ is_write action.now }
 {
-    matches!(action, Action::Put { .. } | Action::Delete { .. })
+    matches!(
+        action,
+        Action::Put { .. } | Action::Delete { .. } | Action::Swap { .. }
+    )
 }
 
 /// The timestamp that the end tells, or that of no record.
@@ -100,7 +111,9 @@ fn reply_stamp(reply: &Reply) -> Stamp
         Reply::Done(stamp)
         | Reply::Value(_, stamp)
         | Reply::Absent(stamp)
-        | Reply::Exhausted(stamp) => *stamp,
+        | Reply::Exhausted(stamp)
+        | Reply::Swapped(stamp)
+        | Reply::Changed(stamp) => *stamp,
         Reply::Collected(_) => Stamp::zero(),
     }
 }

@@ -14,11 +14,12 @@ use Rattle.hy_record.specs.Stamp.{Timestamp}
 use Rattle.hy_record.specs.declared.action.Action.{Action}
 use Rattle.hy_record.specs.declared.cloud.CloudSay.{CloudSay}
 use Rattle.hy_text.specs.Action.{action_words, IsTextAction, action_from}
+use Rattle.hy_text.specs.declared.action.Verbs.TheVariants.{WithoutSwaps}
 use Rattle.hy_text.specs.Line.{first_word, later_words, is_word, is_row}
 use Rattle.hy_text.specs.Slot.{number_of, key_word, end_of}
 use Rattle.hy_text.specs.Stamp.{stamp_words, stamp_from}
 use Rattle.hy_text.specs.Table.{value_named}
-use Rattle.hy_text.proofs.Groups.{number_first, key_first, stamp_takes, stamp_again, stamp_is_row, action_takes, action_again, action_is_row}
+use Rattle.hy_text.proofs.Groups.{number_first, key_first, stamp_takes, stamp_again, stamp_is_row, action_takes, action_has, action_again, action_is_row}
 use Rattle.hy_text.proofs.Keys.{key_again}
 use Rattle.hy_text.proofs.Numbers.{number_again}
 use Rattle.hy_text.proofs.Printed.{is_word-decimal, is_word-key}
@@ -30,7 +31,7 @@ use Rattle.hy_sched.specs.declared.event_kind.EventKind.{EventKind}
 use Rattle.hy_sched.specs.declared.event_kind.EventKind.TheVariants.{Open, Do, Invoke, Give, Lie, Tick, Stop}
 use Rattle.hy_sched.specs.declared.params.Params.{Params}
 use Rattle.hy_sched.specs.Params.{is_liar, IsParams}
-use Rattle.hy_sched.specs.Ranges.{IsTextClient, IsTextLie, IsTextEvent}
+use Rattle.hy_sched.specs.Ranges.{IsTextRequest, IsTextClient, IsTextLie, IsTextEvent}
 use Rattle.hy_sched.specs.Reading.{event_kinds, liar_of, number_of_words, request_of_words, lie_of_words, event_by, event_of}
 use Rattle.hy_sched.specs.Say.{say_words, say_from}
 use Rattle.hy_sched.specs.Text.{event_word, event_kind, event_words, event_row}
@@ -60,19 +61,20 @@ number_takes_all low high words number fits e =
 -- the words are those of a client and of what it is asked for, in range
 record IsRequest (words : List (List ℕ)) (read : ℕ × Action) : Type 0 where
   row : words ≡ decimal read.0 ∷ action_words read.1
-  fits : IsTextClient read.0 × IsTextAction read.1
+  fits : IsTextClient read.0 × IsTextRequest read.1
 
 request_takes : (words : List (List ℕ)) (read : ℕ × Action) → request_of_words words ≡ Ok read → IsRequest words read
 unfolding request_of_words
 request_takes words read e =
     let client = bind_ok (number_of 1 MAX_SESSIONS (first_word words)) _ read e in
-    let action = bind_ok (action_from (later_words words)) (λ action. end_of action.1 >>= λ _. Ok (client.0, action.0)) read client.2 in
+    let action = bind_ok (action_from WithoutSwaps MAX_SESSIONS (later_words words)) (λ action. end_of action.1 >>= λ _. Ok (client.0, action.0)) read client.2 in
     let end = bind_ok (end_of action.0.1) (λ _. Ok (client.0, action.0.0)) read action.2 in
     let n = number_first 1 MAX_SESSIONS words client.0 (omega arith) client.1 in
-    let a = action_takes (later_words words) action.0 action.1 in
+    let a = action_takes WithoutSwaps MAX_SESSIONS (later_words words) action.0 (omega arith) action.1 in
+    let has = action_has WithoutSwaps MAX_SESSIONS (later_words words) action.0 (omega arith) action.1 in
     let rest : later_words words ≡ action_words action.0.0 = a.row ∙ ap (λ (ws : List (List ℕ)). action_words action.0.0 ++ ws) (end_takes action.0.1 end.0 end.1) ∙ append-nil (action_words action.0.0) in
     subst (IsRequest words) (ok_is (client.0, action.0.0) read end.2)
-    (record { row = n.row ∙ ap (λ (ws : List (List ℕ)). decimal client.0 ∷ ws) rest; fits = ((n.low_end, n.high_end), a.fits) })
+    (record { row = n.row ∙ ap (λ (ws : List (List ℕ)). decimal client.0 ∷ ws) rest; fits = ((n.low_end, n.high_end), (a.fits, has)) })
 
 allowed : (liar : Bool) (cloud read : ℕ) → cond liar (Ok cloud) (Err BadNumber) ≡ Ok read → (liar ≡ true) × (cloud ≡ read)
 allowed true cloud read e = (refl, ok_is cloud read e)
@@ -196,10 +198,10 @@ number_again_all : (low high number : ℕ) → high < 2 ^ 64 → (low ≤ number
 unfolding number_of_words
 number_again_all low high number fits range = rw (number_again low high number (omega (arith, range.1)) range.0 range.1) refl
 
-request_again : (client : ℕ) (action : Action) → IsTextClient client × IsTextAction action → request_of_words (decimal client ∷ action_words action) ≡ Ok (client, action)
+request_again : (client : ℕ) (action : Action) → IsTextClient client × IsTextRequest action → request_of_words (decimal client ∷ action_words action) ≡ Ok (client, action)
 unfolding request_of_words
 request_again client action fits =
-    let action_is : action_from (action_words action) ≡ Ok (action, []) = ap action_from (sym (append-nil (action_words action))) ∙ action_again action [] fits.1 in
+    let action_is : action_from WithoutSwaps MAX_SESSIONS (action_words action) ≡ Ok (action, []) = ap (action_from WithoutSwaps MAX_SESSIONS) (sym (append-nil (action_words action))) ∙ action_again WithoutSwaps MAX_SESSIONS action [] (omega arith) fits.1.1 fits.1.0 in
     rw (number_again 1 MAX_SESSIONS client (omega (arith, fits.0.1)) fits.0.0 fits.0.1, action_is) refl
 
 lie_again : (params : Params) (cloud client op : ℕ) (key : List ℕ) (stamp : Timestamp) (say : CloudSay) → IsParams params → IsTextLie params cloud client op key stamp say
@@ -224,9 +226,9 @@ event_again params (events.Stop client) fits is = rw (number_again_all 1 MAX_SES
 
 -- ---- the line is a row
 
-words_of_request : (client : ℕ) (action : Action) → IsTextClient client × IsTextAction action → list_all is_word (decimal client ∷ action_words action) ≡ true
+words_of_request : (client : ℕ) (action : Action) → IsTextClient client × IsTextRequest action → list_all is_word (decimal client ∷ action_words action) ≡ true
 words_of_request client action fits =
-    let action_is : list_all is_word (action_words action) ≡ true = ap (list_all is_word) (sym (append-nil (action_words action))) ∙ action_is_row action [] fits.1 refl in
+    let action_is : list_all is_word (action_words action) ≡ true = ap (list_all is_word) (sym (append-nil (action_words action))) ∙ action_is_row MAX_SESSIONS action [] (omega arith) fits.1.0 refl in
     rw (is_word-decimal client (omega (arith, fits.0.1)), action_is) refl
 
 words_of_lie : (params : Params) (cloud client op : ℕ) (key : List ℕ) (stamp : Timestamp) (say : CloudSay) → IsParams params → IsTextLie params cloud client op key stamp say

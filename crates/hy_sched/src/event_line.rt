@@ -21,7 +21,7 @@ use crate::say::read_say;
 use hy_base::{Cause, MAX_CLOUDS, MAX_COUNT, MAX_EVENTS, MAX_SESSIONS};
 use hy_record::Action;
 use hy_text::{
-    LineError, LineKind, Words, read_action, read_key, read_named, read_stamp, read_u32,
+    LineError, LineKind, Verbs, Words, read_action, read_key, read_named, read_stamp, read_u32,
 };
 use std::alloc::Global;
 use std::marker::Model;
@@ -196,7 +196,7 @@ fn read_request(alloc: Global, words: &mut Words) -> Result<(u32, Action), LineE
     ensures { Gives result (request_of_words words.old) }
 {
     let client = read_u32(words.next_word(), 1, MAX_SESSIONS)?;
-    let action = read_action(alloc, words)?;
+    let action = read_action(alloc, words, Verbs::WithoutSwaps, MAX_SESSIONS)?;
     words.end()?;
     Ok((client, action))
 }

@@ -17,7 +17,7 @@ mod value;
 mod word;
 mod writing;
 
-pub use action::{Verb, push_action, read_action};
+pub use action::{Verb, Verbs, push_action, read_action};
 pub use cause::cause_name;
 pub use clouds::{push_clouds, read_clouds};
 pub use cursor::{Cursor, OpenLine};

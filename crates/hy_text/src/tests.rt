@@ -196,9 +196,12 @@ fn actions_have_one_form(rt: HostRuntime) -> Result<(), Fail> {
         b"get a".as_slice(),
         b"delete a".as_slice(),
         b"collect a".as_slice(),
+        b"swap _a 0 0 00ff".as_slice(),
+        b"swap _ 4294967294 4096 -".as_slice(),
+        b"get _a".as_slice(),
     ] {
         let mut words = Words::split(text, b' ');
-        let action = read_action(rt.alloc(), &mut words)?;
+        let action = read_action(rt.alloc(), &mut words, Verbs::All, 4096)?;
         assert_eq!(rt; words.end(), Ok(()), "at {text:?}");
         let mut out = Vec::new(rt.alloc());
         push_action(&mut out, &action)?;
@@ -210,10 +213,28 @@ fn actions_have_one_form(rt: HostRuntime) -> Result<(), Fail> {
         (b"put a 0".as_slice(), Cause::BadHex),
         (b"put a".as_slice(), Cause::BadHex),
         (b"collect".as_slice(), Cause::BadKey),
+        (b"put _a 0".as_slice(), Cause::BadKey),
+        (b"delete _a".as_slice(), Cause::BadKey),
+        (b"swap a 0 4097 0".as_slice(), Cause::BadKey),
+        (b"swap _a 0 4097 0".as_slice(), Cause::BadNumber),
+        (b"swap _a 0 0 0".as_slice(), Cause::BadHex),
     ] {
         assert_eq!(rt;
-            read_action(rt.alloc(), &mut Words::split(text, b' ')).err(),
+            read_action(rt.alloc(), &mut Words::split(text, b' '), Verbs::All, 4096).err(),
             Some(LineError::Bad(cause)),
+            "at {text:?}"
+        );
+    }
+    for text in [b"collect a".as_slice(), b"swap _a 0 0 -".as_slice()] {
+        assert_eq!(rt;
+            read_action(
+                rt.alloc(),
+                &mut Words::split(text, b' '),
+                Verbs::OfValues,
+                4096
+            )
+            .err(),
+            Some(LineError::Bad(Cause::BadWord)),
             "at {text:?}"
         );
     }

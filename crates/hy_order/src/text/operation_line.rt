@@ -7,6 +7,7 @@ ghost use Rattle.hy_order.specs.ReportReading.{operation_of_words};
 ghost use Rattle.hy_order.specs.WordReaders.{
   phase_word_of,
   write_reply_from,
+  swap_reply_from,
   value_from,
   get_reply_from,
   collect_reply_from,
@@ -22,7 +23,7 @@ use crate::text::slots::{read_any_stamp, read_number_after};
 use hy_base::{Cause, MAX_COUNT, MAX_TEXT_VALUE};
 use hy_record::{Action, Phase, Reply};
 use hy_text::{
-    LineError, LineKind, Words, read_action, read_number, read_phase, read_u32, read_value,
+    LineError, LineKind, Verbs, Words, read_action, read_number, read_phase, read_u32, read_value,
 };
 use std::alloc::Global;
 use std::marker::Model;
@@ -93,7 +94,7 @@ fn read_operation(
 {
     let number = read_number_after(last, words.next_word())?;
     let client = read_u32(words.next_word(), 1, MAX_COUNT)?;
-    let action = read_action(alloc, words)?;
+    let action = read_action(alloc, words, Verbs::All, MAX_COUNT)?;
     let invoked = read_number(words.next_word(), step + 1, LAST_STEP)?;
     let end = read_end(alloc, &action, invoked, words)?;
     words.end()?;
@@ -172,7 +173,9 @@ fn has_phase(action: &Action, phase: Phase) -> bool
     ensures { result ≡ is_phase_of action.now phase }
 {
     match action {
-        Action::Put { .. } => matches!(phase, Phase::Read | Phase::Store | Phase::Update),
+        Action::Put { .. } | Action::Swap { .. } => {
+            matches!(phase, Phase::Read | Phase::Store | Phase::Update)
+        }
         Action::Delete { .. } => matches!(phase, Phase::Read | Phase::Update),
         Action::Get { .. } => matches!(
             phase,
@@ -191,6 +194,7 @@ fn read_reply(alloc: Global, action: &Action, words: &mut Words) -> Result<Reply
         Action::Put { .. } | Action::Delete { .. } => Ok(read_write_reply(words)?),
         Action::Get { .. } => read_get_reply(alloc, words),
         Action::Collect { .. } => Ok(read_collect_reply(words)?),
+        Action::Swap { .. } => Ok(read_swap_reply(words)?),
     }
 }
 
@@ -204,6 +208,27 @@ fn read_write_reply(words: &mut Words) -> Result<Reply, Cause>
     if word == b"done".as_slice() {
         let stamp = read_any_stamp(words)?;
         return Ok(Reply::Done(stamp));
+    }
+    if word == b"exhausted".as_slice() {
+        let stamp = read_any_stamp(words)?;
+        return Ok(Reply::Exhausted(stamp));
+    }
+    Err(Cause::BadWord)
+}
+
+/// The reply of a swap.
+#[tactic(auto, unfolding(crate::specs::WordReaders::swap_reply_from))]
+fn read_swap_reply(words: &mut Words) -> Result<Reply, Cause>
+    ensures { TakesExactly result words.new (swap_reply_from words.old) }
+{
+    let word = words.next_word();
+    if word == b"swapped".as_slice() {
+        let stamp = read_any_stamp(words)?;
+        return Ok(Reply::Swapped(stamp));
+    }
+    if word == b"changed".as_slice() {
+        let stamp = read_any_stamp(words)?;
+        return Ok(Reply::Changed(stamp));
     }
     if word == b"exhausted".as_slice() {
         let stamp = read_any_stamp(words)?;

@@ -9,9 +9,9 @@ ghost use Rattle.hy_base.specs.declared.fault.TextFault.{TextFault};
 ghost use Rattle.hy_text.specs.Gives.{GivesText};
 ghost use Rattle.hy_text.specs.Kind.{TakesLines, items_from};
 ghost use Rattle.hy_order.specs.Due.{is_key, names_key};
-ghost use Rattle.hy_order.specs.Keys.{sorted_keys};
+ghost use Rattle.hy_order.specs.Keys.{register_key, register_keys, sorted_keys};
 ghost use Rattle.hy_order.specs.Report.{report_text};
-ghost use Rattle.hy_order.specs.ReportRanges.{IsReport, register_key, register_keys};
+ghost use Rattle.hy_order.specs.ReportRanges.{IsReport};
 ghost use Rattle.hy_order.specs.ReportReading.{last_of, operation_lines, report_of};
 ghost use Rattle.hy_order.specs.declared.report.Report.{Report};
 
@@ -88,7 +88,7 @@ fn read_last_line(alloc: Global, mut end: EndLine, cursor: &mut Cursor) -> Resul
     cursor.end()
 }
 
-/// The keys that a put, a get or a delete names, in increasing order.
+/// The keys that a put, a get, a delete or a swap names, in increasing order.
 fn keys_due(alloc: Global, ops: &[Operation]) -> Result<Vec<Key>, NoMemory>
     ensures { IfOk result (λ keys. keys.items ≡ sorted_keys (register_keys ops.now)) }
 {
@@ -104,7 +104,7 @@ fn keys_due(alloc: Global, ops: &[Operation]) -> Result<Vec<Key>, NoMemory>
     Ok(due)
 }
 
-/// Adds the key that the operation at the place names, where it puts, gets or deletes one.
+/// Adds the key that the operation at the place names, where it puts, gets, deletes or swaps one.
 ///
 /// Most operations name a key that one shortly before them named too, which needs no search among
 /// the keys: each slot keeps the place of the last operation whose key falls to it.
@@ -154,7 +154,7 @@ fn slot_of(key: &Key) -> usize {
     slot % SLOTS
 }
 
-/// Whether there is an operation, and it puts, gets or deletes the key.
+/// Whether there is an operation, and it puts, gets, deletes or swaps the key.
 fn names_key(op: Option<&Operation>, key: &Key) -> bool
     ensures { result ≡ names_key key.now (option_copied op.entry) }
 {
@@ -174,12 +174,15 @@ fn is_key(found: Option<&Key>, key: &Key) -> bool
     }
 }
 
-/// The key of a put, a get or a delete.
+/// The key of a put, a get, a delete or a swap.
 fn register_key(action: &Action) -> Option<&Key>
     ensures { option_copied result ≡ register_key action.now }
 {
     match action {
-        Action::Put { key, .. } | Action::Get { key } | Action::Delete { key } => Some(key),
+        Action::Put { key, .. }
+        | Action::Get { key }
+        | Action::Delete { key }
+        | Action::Swap { key, .. } => Some(key),
         Action::Collect { .. } => None,
     }
 }

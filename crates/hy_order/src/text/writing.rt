@@ -118,6 +118,14 @@ fn push_reply(out: &mut Vec<u8>, reply: &Reply) -> Result<(), NoMemory>
             out.extend_from_slice(b" collected")?;
             push_number_word(out, (*count).into())
         }
+        Reply::Swapped(stamp) => {
+            out.extend_from_slice(b" swapped")?;
+            push_stamp(out, stamp)
+        }
+        Reply::Changed(stamp) => {
+            out.extend_from_slice(b" changed")?;
+            push_stamp(out, stamp)
+        }
     }
 }
 

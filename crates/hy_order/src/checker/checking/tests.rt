@@ -171,3 +171,43 @@ fn names_the_first_illegal_order(rt: HostRuntime) -> Result<(), Fail> {
     }
     Ok(())
 }
+
+/// Two swaps that expect no record, one after the other, and both done.
+const TWO_SWAPS: &[u8] = b"op 1 1 swap _a 0 0 01 1 2 swapped 1 1\n\
+op 2 2 swap _a 0 0 02 3 4 swapped 1 2\n\
+order _a 1 2\n\
+end 2 1\n";
+
+/// A swap, one that was told the timestamp of the first, one without a reply, and a get.
+///
+/// The second overlaps the third, which leaves a timestamp that is unknown.
+const SWAPS_AND_GET: &[u8] = b"op 1 1 swap _a 0 0 01 1 2 swapped 1 1\n\
+op 2 2 swap _a 0 0 02 3 9 changed 1 1\n\
+op 3 3 swap _a 1 1 03 5 - update 0 1\n\
+op 4 4 get _a 6 7 value 03 2 3\n\
+order _a 1 2 3 4\n\
+end 4 1\n";
+
+#[test]
+fn swap_verdicts(rt: HostRuntime) -> Result<(), Fail> {
+    all_have(
+        &rt,
+        rt.alloc(),
+        TWO_SWAPS,
+        b"_a",
+        &[(&[1, 2], Verdict::Wrong(2))],
+    )?;
+    all_have(
+        &rt,
+        rt.alloc(),
+        SWAPS_AND_GET,
+        b"_a",
+        &[
+            (&[1, 2, 3, 4], Verdict::Legal),
+            (&[1, 3, 2, 4], Verdict::Legal),
+            (&[1, 2, 4], Verdict::Wrong(4)),
+            (&[1, 3, 4], Verdict::Missing(2)),
+            (&[3, 1, 2, 4], Verdict::Early(1, 3)),
+        ],
+    )
+}

@@ -1,6 +1,6 @@
 use Rattle.std.proofs.Common.{◌≡◌, ℕ, None, ◌∙◌, sym, ap, subst, length}
 use Rattle.hy_order.specs.Checking.{ArePlaces}
-use Rattle.hy_order.specs.Linearization.{listed}
+use Rattle.hy_order.specs.Linearization.{no_register, listed}
 use Rattle.hy_order.specs.Violation.{missing_number, stranger_number, repeated_number, early_numbers, wrong_number}
 use Rattle.hy_order.proofs.Listed.{targets}
 use Rattle.hy_order.proofs.Marking.{places-members}
@@ -90,8 +90,8 @@ returns-clause-verdict c =
       | in-Some-first_wrong w ↦
           w.result-is
           ∙ Wrong-first ops key numbers w.in-Some-first_wrong.number complete members distinct ordered
-          (sym (w.in-Some-first_wrong.ensures ∙ ap (wrong_number None) again))
+          (sym (w.in-Some-first_wrong.ensures ∙ ap (wrong_number no_register) again))
       | in-None w ↦
           w.result-is
-          ∙ Legal-first ops key numbers complete members distinct ordered (sym (w.in-None.ensures ∙ ap (wrong_number None) again))
+          ∙ Legal-first ops key numbers complete members distinct ordered (sym (w.in-None.ensures ∙ ap (wrong_number no_register) again))
     ]

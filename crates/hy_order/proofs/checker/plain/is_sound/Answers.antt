@@ -1,7 +1,7 @@
 use Rattle.std.proofs.Common.{◌≡◌, ℕ, true, None, ◌∙◌, sym, ap, subst, length, arith}
 use Rattle.std.proofs.lemmas.Grind.{common_steps}
 use Rattle.hy_order.specs.Checking.{ArePlaces}
-use Rattle.hy_order.specs.Linearization.{listed}
+use Rattle.hy_order.specs.Linearization.{no_register, listed}
 use Rattle.hy_order.specs.Violation.{stranger_number, repeated_number, early_numbers, wrong_number}
 use Rattle.hy_order.proofs.Listed.{targets}
 use Rattle.hy_order.proofs.Marking.{places-members}
@@ -28,5 +28,5 @@ returns-clause-sound c = λ told.
       stranger = sym (ap (stranger_number ops key) same) ∙ stranger;
       twice = sym (ap repeated_number same) ∙ twice;
       early = sym (ap early_numbers found) ∙ sym c.first_early.ensures ∙ not_early;
-      wrong = sym (ap (wrong_number None) again) ∙ sym c.first_wrong.ensures ∙ not_wrong;
+      wrong = sym (ap (wrong_number no_register) again) ∙ sym c.first_wrong.ensures ∙ not_wrong;
     }

@@ -1,7 +1,6 @@
 -- The keys of the operations so far, and then those that stand in the set and in the list.
 use Rattle.std.proofs.Common.{◌≡◌, ◌++◌, take}
-use Rattle.hy_order.specs.Keys.{sorted_keys}
-use Rattle.hy_order.specs.ReportRanges.{register_keys}
+use Rattle.hy_order.specs.Keys.{sorted_keys, register_keys}
 use Rattle.hy_order.proofs.text.reading.keys_due.Given as goal
 
 abbrev pub invariant-loop-place : goal.invariant-loop-place
