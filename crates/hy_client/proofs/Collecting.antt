@@ -361,6 +361,8 @@ other-say m say no_list not_forgot s was = by_say say s no_list not_forgot
     by_say (says.Applied c o k a) t no_list not_forgot = idles (cues.Meta (says.Applied c o k a)) refl refl (λ stamp cloud within. refl) t
     by_say (says.Kept c o k a) t no_list not_forgot = idles (cues.Meta (says.Kept c o k a)) refl refl (λ stamp cloud within. refl) t
     by_say (says.Fired c o k a) t no_list not_forgot = idles (cues.Meta (says.Fired c o k a)) refl refl (λ stamp cloud within. refl) t
+    by_say (says.Swapped c o k a) t no_list not_forgot = idles (cues.Meta (says.Swapped c o k a)) refl refl (λ stamp cloud within. refl) t
+    by_say (says.Changed c o k a) t no_list not_forgot = idles (cues.Meta (says.Changed c o k a)) refl refl (λ stamp cloud within. refl) t
     by_say (says.OldList c o k ss) t no_list not_forgot = absurd (no_list c o k ss refl)
     by_say (says.Forgot c o k) t no_list not_forgot = absurd (not_forgot c o k refl)
 

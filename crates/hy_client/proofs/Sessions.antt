@@ -1,6 +1,6 @@
 -- A client after each of its calls.
-use Rattle.std.proofs.Common.{◌≡◌, ℕ, ◌+◌, ◌<◌, Bool, true, false, List, [], ◌∷◌, Option, Some, None, refl, sym, ap, subst, ◌∙◌, inl, inr, arith}
-use Rattle.std.specs.Prelude.{◌==◌, ◌&&◌, not, is_some, nat_lt}
+use Rattle.std.proofs.Common.{◌≡◌, ℕ, ◌+◌, true, false, List, [], Option, Some, None, refl, sym, ap, subst, ◌∙◌, inl, inr, arith}
+use Rattle.std.specs.Prelude.{◌==◌, not, is_some}
 use Rattle.std.specs.Option.{option_map}
 use Rattle.std.proofs.lemmas.Bool.{ne_eqb}
 use Rattle.hy_meta.proofs.Rising.{cases_bool}
@@ -8,10 +8,10 @@ use Rattle.hy_record.specs.declared.action.Action.{Action}
 use Rattle.hy_record.specs.declared.action.Phase.{Phase}
 use Rattle.hy_record.specs.declared.turn.Cue.{Cue}
 use Rattle.hy_record.specs.declared.turn.Turn.{Turn}
-use Rattle.hy_protocol.specs.Inputs.{addresses, inputs_for}
-use Rattle.hy_protocol.specs.Operations.{key_of, sends_of, replied}
+use Rattle.hy_protocol.specs.Inputs.{inputs_for}
+use Rattle.hy_protocol.specs.Operations.{key_of, suits, sends_of, replied}
 use Rattle.hy_protocol.specs.Progress.{Progress, progress_of}
-use Rattle.hy_protocol.specs.Session.{Session, fresh_session, reply_by, takes_by, sends_by, is_running, takes, session_after, turn_sends, turn_reply, session_turn, session_invoked, invoked_sends, session_stopped, progress_by, session_progress}
+use Rattle.hy_protocol.specs.Session.{Session, takes_by, is_running, takes, session_after, turn_sends, turn_reply, session_turn, session_invoked, invoked_sends, session_stopped, session_progress}
 use Rattle.hy_protocol.specs.Turns.{quiet_turn}
 use Rattle.hy_operation.specs.Progress.{Tells}
 use Rattle.hy_operation.specs.declared.progress.Progress as told
@@ -248,6 +248,12 @@ pub refuses-busy : (m : Client) (s : Session) (a : Action) → StandsForSession 
 unfolding is_running
 refuses-busy m s a h live busy = let is : s.stopped ≡ false = sym h.stopped ∙ live in ap (λ (n : ℕ). Some (faults.Busy n)) h.begun ∙ rw (is, busy) refl
 
-pub refuses-size : (m : Client) (s : Session) (a : Action) → StandsForSession m s → m.stopped ≡ false → is_running s ≡ false → size_refusal a ≡ invoke_refusal s a
+pub refuses-key : (m : Client) (s : Session) (a : Action) → StandsForSession m s → m.stopped ≡ false → is_running s ≡ false → suits a ≡ false
+    → Some faults.WrongKey ≡ invoke_refusal s a
 unfolding is_running
-refuses-size m s a h live idle = let is : s.stopped ≡ false = sym h.stopped ∙ live in rw (is, idle) refl
+refuses-key m s a h live idle wrong = let is : s.stopped ≡ false = sym h.stopped ∙ live in rw (is, idle, wrong) refl
+
+pub refuses-size : (m : Client) (s : Session) (a : Action) → StandsForSession m s → m.stopped ≡ false → is_running s ≡ false → suits a ≡ true
+    → size_refusal a ≡ invoke_refusal s a
+unfolding is_running
+refuses-size m s a h live idle fits = let is : s.stopped ≡ false = sym h.stopped ∙ live in rw (is, idle, fits) refl

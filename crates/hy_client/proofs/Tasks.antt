@@ -1,6 +1,6 @@
 -- The machine of an operation, whichever it is, after one more input.
-use Rattle.std.proofs.Common.{◌≡◌, ℕ, Bool, true, false, List, [], ◌∷◌, Option, Some, None, Result, Ok, Err, refl, sym, ap, subst, ◌∙◌}
-use Rattle.std.specs.Prelude.{◌&&◌, not, is_some, IfOk, OnOk, OnErr}
+use Rattle.std.proofs.Common.{◌≡◌, ℕ, true, false, List, [], ◌∷◌, Option, Some, None, Result, Ok, Err, refl, sym, ap, subst, ◌∙◌}
+use Rattle.std.specs.Prelude.{is_some, IfOk, OnOk, OnErr}
 use Rattle.std.specs.Option.{option_or}
 use Rattle.std.proofs.lemmas.Bool.{false≢true}
 use Rattle.hy_record.specs.declared.action.Action.{Action}
@@ -15,10 +15,12 @@ use Rattle.hy_protocol.specs.declared.plan.CollectPlan.{CollectPlan}
 use Rattle.hy_protocol.specs.Inputs.{addresses, inputs_for}
 use Rattle.hy_protocol.specs.Operations.{key_of, write_plan, read_plan, collect_plan, sends_of, replied}
 use Rattle.hy_protocol.specs.Write.{write_sends, write_reply, write_reply_at}
+use Rattle.hy_protocol.specs.Swap.{swap_sends, swap_reply, swap_reply_at}
+use Rattle.hy_record.specs.Stamp.{Timestamp}
 use Rattle.hy_protocol.specs.Read.{read_sends, read_reply, answer_of, version_of}
 use Rattle.hy_protocol.specs.Collect.{collect_sends, collect_reply, collected_by, nothing_by, first_olds, forget_of}
 use Rattle.hy_protocol.specs.Progress.{Progress, write_progress, read_progress, collect_progress, progress_of}
-use Rattle.hy_protocol.specs.Turns.{own_turn, turn_of, put_turn, get_turn, collect_turn, settled_progress, put_progress, get_progress, collect_progress_of}
+use Rattle.hy_protocol.specs.Turns.{own_turn, turn_of, put_turn, swap_turn, get_turn, collect_turn, settled_progress, put_progress, swap_progress, get_progress, collect_progress_of}
 use Rattle.hy_operation.proofs.Inputs.{inputs-own, turn-own, turn-before-reply, progress-before-reply}
 use Rattle.hy_put.specs.Standing as puts
 use Rattle.hy_put.specs.declared.put.PutOp.{PutOp}
@@ -56,6 +58,7 @@ put-runs self old new more is step task inputs h = by_action task.action (subst 
     by_action (asked.Delete key) runs = step _ inputs runs
     by_action (asked.Get key) runs = absurd runs
     by_action (asked.Collect key) runs = absurd runs
+    by_action (asked.Swap key expected value) runs = absurd runs
 
 pub get-runs : (self : Machine) (old new : GetOp) (more : List Cue → List Cue) → self ≡ machines.Get old → ((plan : GetPlan) (inputs : List Cue) → gets.StandsForInputs plan old inputs → gets.StandsForInputs plan new (more inputs))
     → (task : Task) (inputs : List Cue) → Runs task self inputs → Runs task (machines.Get new) (more inputs)
@@ -66,6 +69,7 @@ get-runs self old new more is step task inputs h = by_action task.action (subst 
     by_action (asked.Put key value) runs = absurd runs
     by_action (asked.Delete key) runs = absurd runs
     by_action (asked.Collect key) runs = absurd runs
+    by_action (asked.Swap key expected value) runs = absurd runs
 
 pub collect-runs : (self : Machine) (old new : CollectOp) (more : List Cue → List Cue) → self ≡ machines.Collect old → ((plan : CollectPlan) (inputs : List Cue) → collections.StandsForInputs plan old inputs → collections.StandsForInputs plan new (more inputs))
     → (task : Task) (inputs : List Cue) → Runs task self inputs → Runs task (machines.Collect new) (more inputs)
@@ -76,22 +80,25 @@ collect-runs self old new more is step task inputs h = by_action task.action (su
     by_action (asked.Put key value) runs = absurd runs
     by_action (asked.Delete key) runs = absurd runs
     by_action (asked.Get key) runs = absurd runs
+    by_action (asked.Swap key expected value) runs = absurd runs
 
 -- ---- what an operation sends first
 
 pub first-sends : (f k client op : ℕ) (action : Action) → (turn_by f k client op action []).sends ≡ sends_of f k client op action []
-unfolding put_turn get_turn collect_turn turn_of own_turn sends_of
+unfolding put_turn swap_turn get_turn collect_turn turn_of own_turn sends_of
 first-sends f k client op (asked.Put key value) = refl
 first-sends f k client op (asked.Delete key) = refl
 first-sends f k client op (asked.Get key) = refl
 first-sends f k client op (asked.Collect key) = refl
+first-sends f k client op (asked.Swap key expected value) = refl
 
 pub unreplied : (f k client op : ℕ) (action : Action) → is_some (replied f k client op action []) ≡ false
-unfolding replied write_reply read_reply collect_reply
+unfolding replied write_reply swap_reply read_reply collect_reply
 unreplied f k client op (asked.Put key value) = refl
 unreplied f k client op (asked.Delete key) = refl
 unreplied f k client op (asked.Get key) = refl
 unreplied f k client op (asked.Collect key) = refl
+unreplied f k client op (asked.Swap key expected value) = refl
 
 -- ---- the turn at an input that the operation awaits
 
@@ -107,11 +114,14 @@ own-turn sends reply client op key inputs cue own silent for =
 -- what the operation does
 turn-is : (f k client op : ℕ) (action : Action) (inputs : List Cue) (cue : Cue) → inputs_for client op (key_of action) inputs ≡ inputs → is_some (replied f k client op action inputs) ≡ false → addresses client op (key_of action) cue ≡ true
     → turn_by f k client op action (cue ∷ inputs) ≡ record { sends = sends_of f k client op action (cue ∷ inputs); reply = replied f k client op action (cue ∷ inputs) }
-unfolding put_turn get_turn collect_turn sends_of replied
+unfolding put_turn swap_turn get_turn collect_turn sends_of replied
 turn-is f k client op (asked.Put key value) inputs cue own silent for = own-turn (write_sends (write_plan f k client op key (Some value))) (write_reply (write_plan f k client op key (Some value))) client op key inputs cue own silent for
 turn-is f k client op (asked.Delete key) inputs cue own silent for = own-turn (write_sends (write_plan f k client op key None)) (write_reply (write_plan f k client op key None)) client op key inputs cue own silent for
 turn-is f k client op (asked.Get key) inputs cue own silent for = own-turn (read_sends (read_plan client op key)) read_reply client op key inputs cue own silent for
 turn-is f k client op (asked.Collect key) inputs cue own silent for = own-turn (collect_sends (collect_plan f k client op key)) (collect_reply (collect_plan f k client op key)) client op key inputs cue own silent for
+turn-is f k client op (asked.Swap key expected value) inputs cue own silent for =
+    let plan : PutPlan = write_plan f k client op key (Some value) in
+    own-turn (swap_sends plan expected) (swap_reply plan expected) client op key inputs cue own silent for
 
 awaited : (task : Task) (inputs : List Cue) (cue : Cue) → is_some (replied task.f task.k task.client task.op task.action inputs) ≡ false → addresses task.client task.op (key_of task.action) cue ≡ true → awaits task inputs cue ≡ true
 awaited task inputs cue silent for = rw (silent, for) refl
@@ -156,6 +166,11 @@ write-latched : (plan : PutPlan) (cue : Cue) (before : List Cue) → write_reply
 unfolding write_reply
 write-latched plan cue before none = latched (write_reply plan before) (write_reply_at plan cue before) none
 
+swap-latched : (plan : PutPlan) (expected : Timestamp) (cue : Cue) (before : List Cue)
+    → swap_reply plan expected (cue ∷ before) ≡ None → swap_reply plan expected before ≡ None
+unfolding swap_reply
+swap-latched plan expected cue before none = latched (swap_reply plan expected before) (swap_reply_at plan expected cue before) none
+
 read-latched : (cue : Cue) (before : List Cue) → read_reply (cue ∷ before) ≡ None → read_reply before ≡ None
 unfolding read_reply
 read-latched cue before none = latched (read_reply before) (answer_of (version_of (cue ∷ before))) none
@@ -165,7 +180,7 @@ unfolding collect_reply
 collect-latched plan cue before none = latched (collect_reply plan before) (option_or (collected_by (forget_of plan before) cue) (nothing_by (first_olds (cue ∷ before)))) none
 
 progress-is-by : (f k client op : ℕ) (action : Action) (inputs : List Cue) → inputs_for client op (key_of action) inputs ≡ inputs → is_some (replied f k client op action inputs) ≡ false → progress_by f k client op action inputs ≡ progress_of f k client op action inputs
-unfolding put_progress get_progress collect_progress_of progress_of replied
+unfolding put_progress swap_progress get_progress collect_progress_of progress_of replied
 progress-is-by f k client op (asked.Put key value) inputs own silent =
     let plan : PutPlan = write_plan f k client op key (Some value) in
     ap (settled_progress (write_reply plan) (write_progress plan)) own ∙ progress-open (write_reply plan) (write_progress plan) (write-latched plan) inputs (open-reply (write_reply plan inputs) silent)
@@ -177,6 +192,10 @@ progress-is-by f k client op (asked.Get key) inputs own silent =
 progress-is-by f k client op (asked.Collect key) inputs own silent =
     let plan : CollectPlan = collect_plan f k client op key in
     ap (settled_progress (collect_reply plan) (collect_progress plan)) own ∙ progress-open (collect_reply plan) (collect_progress plan) (collect-latched plan) inputs (open-reply (collect_reply plan inputs) silent)
+progress-is-by f k client op (asked.Swap key expected value) inputs own silent =
+    let plan : PutPlan = write_plan f k client op key (Some value) in
+    ap (settled_progress (swap_reply plan expected) (write_progress plan)) own
+    ∙ progress-open (swap_reply plan expected) (write_progress plan) (swap-latched plan expected) inputs (open-reply (swap_reply plan expected inputs) silent)
 
 pub progress-now : (task : Task) (last : Last) (inputs : List Cue) → Continues task last inputs → last.replied ≡ false → task_progress task inputs ≡ progress_of task.f task.k task.client task.op task.action inputs
 progress-now task last inputs h silent = progress-is-by task.f task.k task.client task.op task.action inputs h.own (sym h.replied ∙ silent)

@@ -1,7 +1,8 @@
 -- A client stands for a session.
-use Rattle.std.specs.Prelude.{◌≡◌, ℕ, ◌<◌, Option, Some, None, if◌then◌else◌}
+use Rattle.std.specs.Prelude.{◌≡◌, ℕ, ◌<◌, not, Option, Some, None, if◌then◌else◌}
 use Rattle.std.specs.Option.{option_map}
 use Rattle.hy_record.specs.declared.action.Action.{Action}
+use Rattle.hy_protocol.specs.Operations.{suits}
 use Rattle.hy_protocol.specs.Session.{Session, is_running, session_progress}
 use Rattle.hy_client.specs.Sizes.{size_refusal}
 use Rattle.hy_client.specs.Machines.{Task, Continues}
@@ -44,6 +45,7 @@ abbrev pub invoke_refusal : Session → Action → Option InvokeFault
 invoke_refusal s action =
     if s.stopped then Some faults.Stopped
     else if is_running s then Some (faults.Busy s.begun)
+    else if not (suits action) then Some faults.WrongKey
     else size_refusal action
 
 -- the operation of the session that has no reply, and how far it is

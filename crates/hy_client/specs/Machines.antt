@@ -1,5 +1,5 @@
 -- The machine of an operation, whichever it is.
-use Rattle.std.specs.Prelude.{◌≡◌, ℕ, Bool, ◌&&◌, not, List, ◌∷◌, Option, Some, None, is_some, if◌then◌else◌}
+use Rattle.std.specs.Prelude.{◌≡◌, ℕ, Bool, ◌&&◌, not, List, ◌∷◌, Some, None, is_some, if◌then◌else◌}
 use Rattle.hy_record.specs.declared.action.Action.{Action}
 use Rattle.hy_record.specs.declared.action.Action.TheVariants as asked
 use Rattle.hy_record.specs.declared.turn.Cue.{Cue}
@@ -7,7 +7,7 @@ use Rattle.hy_record.specs.declared.turn.Turn.{Turn}
 use Rattle.hy_protocol.specs.Inputs.{addresses, inputs_for}
 use Rattle.hy_protocol.specs.Operations.{key_of, write_plan, read_plan, collect_plan, sends_of, replied}
 use Rattle.hy_protocol.specs.Progress.{Progress}
-use Rattle.hy_protocol.specs.Turns.{quiet_turn, put_turn, get_turn, collect_turn, put_progress, get_progress, collect_progress_of}
+use Rattle.hy_protocol.specs.Turns.{quiet_turn, put_turn, swap_turn, get_turn, collect_turn, put_progress, swap_progress, get_progress, collect_progress_of}
 use Rattle.hy_put.specs.Standing as puts
 use Rattle.hy_get.specs.Standing as gets
 use Rattle.hy_client.specs.Collecting as collections
@@ -28,6 +28,7 @@ turn_by f k client op (asked.Put key value) inputs = put_turn (write_plan f k cl
 turn_by f k client op (asked.Delete key) inputs = put_turn (write_plan f k client op key None) inputs
 turn_by f k client op (asked.Get key) inputs = get_turn (read_plan client op key) inputs
 turn_by f k client op (asked.Collect key) inputs = collect_turn (collect_plan f k client op key) inputs
+turn_by f k client op (asked.Swap key expected value) inputs = swap_turn (write_plan f k client op key (Some value)) expected inputs
 
 -- what the operation does at the last of the inputs that it was handed
 abbrev pub task_turn : Task → List Cue → Turn
@@ -38,6 +39,7 @@ progress_by f k client op (asked.Put key value) inputs = put_progress (write_pla
 progress_by f k client op (asked.Delete key) inputs = put_progress (write_plan f k client op key None) inputs
 progress_by f k client op (asked.Get key) inputs = get_progress (read_plan client op key) inputs
 progress_by f k client op (asked.Collect key) inputs = collect_progress_of (collect_plan f k client op key) inputs
+progress_by f k client op (asked.Swap key expected value) inputs = swap_progress (write_plan f k client op key (Some value)) expected inputs
 
 -- how far the operation is
 abbrev pub task_progress : Task → List Cue → Progress

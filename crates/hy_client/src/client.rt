@@ -1,15 +1,16 @@
 //! The client.
 
-ghost use Rattle.std.specs.Prelude.{◌≡◌, ◌+◌, ◌<◌, ◌≤◌, IfOk, OnOk, OnErr, IfSome, IfNone, IsOkUnless, None};
+ghost use Rattle.std.specs.Prelude.{◌≡◌, ◌+◌, ◌<◌, ◌≤◌, false, IfOk, OnOk, OnErr, IfSome, IfNone, IsOkUnless, Some, None, nat_lt, length, if◌then◌else◌};
 ghost use Rattle.hy_base.specs.Shape.{IsShape};
 ghost use Rattle.hy_record.specs.declared.turn.Cue.TheVariants as cues;
-ghost use Rattle.hy_client.specs.Sizes.{size_refusal};
+ghost use Rattle.hy_protocol.specs.Operations.{suits};
+ghost use Rattle.hy_client.specs.Sizes.{size_refusal, is_swap};
 ghost use Rattle.hy_client.specs.declared.fault.InvokeFault.TheVariants as faults;
 
 use crate::fault::InvokeFault;
 use crate::last::{Last, key_of};
 use crate::machine::Machine;
-use hy_base::{MAX_VALUE, NoMemory};
+use hy_base::{Blob, MAX_VALUE, NoMemory};
 use hy_record::{Action, Cue, Out, Phase, Turn};
 use std::alloc::Global;
 
@@ -60,7 +61,8 @@ impl Client {
 
     /// Begins an operation, unless the client refuses it: what the operation sends first.
     pub fn invoke(&mut self, alloc: Global, action: &Action) -> Result<Vec<Out>, InvokeFault>
-        requires { begun_of self.old < 4294967295 }
+        requires few { begun_of self.old < 4294967295 }
+        requires no_swap { is_swap action.now ≡ false }
         ensures refused { (s : Session) → StandsForSession self.old s → IfSome (invoke_refusal s action.now) (λ fault. result ≡ Err fault) }
         ensures accepted { (s : Session) → StandsForSession self.old s → invoke_refusal s action.now ≡ None → IsOkUnless result faults.NoMemory }
         ensures sends { IfOk result (λ sends. (s : Session) → StandsForSession self.old s → sends.items ≡ invoked_sends s action.now) }
@@ -92,6 +94,9 @@ impl Client {
         }
         if self.awaits_reply() {
             return Some(InvokeFault::Busy(self.begun));
+        }
+        if !suits(action) {
+            return Some(InvokeFault::WrongKey);
         }
         size_refusal(action)
     }
@@ -175,16 +180,43 @@ fn size_refusal(action: &Action) -> Option<InvokeFault>
     ensures { result ≡ size_refusal action.now }
 {
     match action {
-        Action::Put { key: _, value } => {
-            let size = value.bytes().len();
-            if size > MAX_VALUE as usize {
-                Some(InvokeFault::TooLarge(size))
-            } else {
-                None
-            }
-        }
+        Action::Put { key: _, value } => too_large(value),
         Action::Get { key: _ } => None,
         Action::Delete { key: _ } => None,
         Action::Collect { key: _ } => None,
+        Action::Swap {
+            key: _,
+            expected: _,
+            value,
+        } => too_large(value),
+    }
+}
+
+/// The fault of these bytes, if they are more than a value may have.
+fn too_large(value: &Blob) -> Option<InvokeFault>
+    ensures { result ≡ (if nat_lt MAX_VALUE (length value.now) then Some (faults.TooLarge (length value.now)) else None) }
+{
+    let size = value.bytes().len();
+    if size > MAX_VALUE as usize {
+        Some(InvokeFault::TooLarge(size))
+    } else {
+        None
+    }
+}
+
+/// Whether the action's key is of its kind: swaps alone write a compare-and-swap key, and write no other.
+fn suits(action: &Action) -> bool
+    ensures { result ≡ suits action.now }
+{
+    match action {
+        Action::Put { key, value: _ } => !key.is_cell(),
+        Action::Get { key: _ } => true,
+        Action::Delete { key } => !key.is_cell(),
+        Action::Collect { key: _ } => true,
+        Action::Swap {
+            key,
+            expected: _,
+            value: _,
+        } => key.is_cell(),
     }
 }

@@ -14,6 +14,8 @@ pub enum InvokeFault {
     Stopped,
     /// The client's operation of this number has no reply.
     Busy(u32),
+    /// The key is of the wrong kind: swaps alone write a compare-and-swap key, and write no other.
+    WrongKey,
     /// The value has so many bytes, more than a value may have.
     TooLarge(usize),
     /// Memory ran out.

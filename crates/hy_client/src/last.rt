@@ -56,5 +56,10 @@ pub(crate) fn key_of(action: &Action) -> Key
         Action::Get { key } => *key,
         Action::Delete { key } => *key,
         Action::Collect { key } => *key,
+        Action::Swap {
+            key,
+            expected: _,
+            value: _,
+        } => *key,
     }
 }

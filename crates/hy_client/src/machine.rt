@@ -1,6 +1,6 @@
 //! The machine of an operation, whichever it is.
 
-ghost use Rattle.std.specs.Prelude.{◌≡◌, ◌∷◌, ◌≤◌, [], ℕ, List, IfOk, IfErr, OnOk, OnErr, None};
+ghost use Rattle.std.specs.Prelude.{◌≡◌, ◌∷◌, ◌≤◌, [], ℕ, List, false, IfOk, IfErr, OnOk, OnErr, None};
 ghost use Rattle.hy_base.specs.Shape.{IsShape};
 ghost use Rattle.hy_record.specs.declared.turn.Cue.{Cue};
 ghost use Rattle.hy_protocol.specs.Operations.{sends_of};
@@ -27,7 +27,7 @@ pub(crate) enum Machine {
 
 impl Machine {
     ghost use Rattle.hy_client.specs.Machines.{Task, Runs, task_turn, task_progress};
-    ghost use Rattle.hy_client.specs.Sizes.{size_refusal};
+    ghost use Rattle.hy_client.specs.Sizes.{size_refusal, is_swap};
 
     /// The machine of what was asked, as the client's operation of this number in a store of this shape, and what it sends first.
     pub(crate) fn start(
@@ -40,6 +40,7 @@ impl Machine {
     ) -> Result<(Machine, Vec<Out>), InvokeFault>
         requires shape { IsShape f k }
         requires client { 1 ≤ client }
+        requires no_swap { is_swap action.now ≡ false }
         ensures stands { IfOk result (λ started. Runs (record { f = f; k = k; client = client; op = op; action = action.now }) started.0 []) }
         ensures sends { IfOk result (λ started. started.1.items ≡ sends_of f k client op action.now []) }
         ensures err { IfErr result (λ fault. size_refusal action.now ≡ None → fault ≡ faults.NoMemory) }
@@ -78,6 +79,11 @@ impl Machine {
                 let (collect, sends) = CollectOp::start(alloc, client, op, key, f, k)?;
                 Ok((Machine::Collect(collect), sends))
             }
+            Action::Swap {
+                key: _,
+                expected: _,
+                value: _,
+            } => Err(InvokeFault::WrongKey),
         }
     }
 

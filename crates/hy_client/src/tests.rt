@@ -1,6 +1,7 @@
 //! The collector's sends, a client's refusals, and how far operations tell that they are.
 
-ghost use Rattle.std.specs.Prelude.{◌≡◌, IfOk, IsTrue};
+ghost use Rattle.std.specs.Prelude.{◌≡◌, false, IfOk, IsTrue};
+ghost use Rattle.hy_client.specs.Sizes.{is_swap};
 ghost use Rattle.hy_base.specs.Shape.{IsShape};
 
 use super::*;
@@ -12,6 +13,11 @@ use hy_record::{
 use std::alloc::Global;
 use std::process::Abort;
 use std::test::Fail;
+
+fn swap_key() -> Result<Key, Fail> {
+    let key = Key::read(b"_a").ok().ok_or("a key")?;
+    Ok(key)
+}
 
 fn key() -> Result<Key, Fail> {
     let key = Key::read(b"a").ok().ok_or("a key")?;
@@ -197,7 +203,9 @@ fn largest_shape_deletes_in_ten_clouds(rt: HostRuntime) -> Result<(), Fail> {
 }
 
 /// A put of so many bytes.
-fn put_of(alloc: Global, count: usize) -> Result<Action, Fail> {
+fn put_of(alloc: Global, count: usize) -> Result<Action, Fail>
+    ensures { IfOk result (λ action. is_swap action ≡ false) }
+{
     let key = key()?;
     let value = Blob::of(vec![in alloc; 7u8; count]?);
     Ok(Action::Put { key, value })
@@ -220,6 +228,10 @@ fn invoke_refusals(rt: HostRuntime) -> Result<(), Fail> {
     assert!(rt; sends.len() == 1 && is_asked(&sends[0], &read));
     assert!(rt; client.begun() == 1);
     assert!(rt; client.invoke(alloc, &large).err() == Some(InvokeFault::Busy(1)));
+    let misplaced = Action::Delete { key: swap_key()? };
+    assert!(rt; client.invoke(alloc, &misplaced).err() == Some(InvokeFault::Busy(1)));
+    let mut other = Client::new(1, 0, 1);
+    assert!(rt; other.invoke(alloc, &misplaced).err() == Some(InvokeFault::WrongKey));
     client.stop();
     assert!(rt; client.invoke(alloc, &large).err() == Some(InvokeFault::Stopped));
     assert_eq!(rt; client.tick(alloc)?.sends.items().len(), 0);
@@ -271,7 +283,9 @@ fn expect_phases(
     action: &Action,
     inputs: &[Cue],
     told: &[(Phase, u32, u32)],
-) -> Result<(), Fail> {
+) -> Result<(), Fail>
+    requires { is_swap action.now ≡ false }
+{
     let mut client = Client::new(1, 1, 1);
     let _sends = client.invoke(alloc, action)?;
     for (place, expected) in told.iter().enumerate() {

@@ -61,6 +61,8 @@ told-calm (cues.Meta (says.Kept c o k s)) rec stamp e = refl
 told-calm (cues.Meta (says.Fired c o k s)) rec stamp e = absurd cc
 told-calm (cues.Meta (says.OldList c o k ss)) rec stamp e = refl
 told-calm (cues.Meta (says.Forgot c o k)) rec stamp e = refl
+told-calm (cues.Meta (says.Swapped c o k s)) rec stamp e = refl
+told-calm (cues.Meta (says.Changed c o k s)) rec stamp e = refl
 told-calm (cues.Cloud reply) rec stamp e = refl
 told-calm cues.Tick rec stamp e = refl
 

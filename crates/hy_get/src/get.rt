@@ -189,6 +189,8 @@ impl GetOp {
             MetaSay::Kept { .. } => Ok(Turn::quiet(alloc)),
             MetaSay::OldList { .. } => Ok(Turn::quiet(alloc)),
             MetaSay::Forgot { .. } => Ok(Turn::quiet(alloc)),
+            MetaSay::Swapped { .. } => Ok(Turn::quiet(alloc)),
+            MetaSay::Changed { .. } => Ok(Turn::quiet(alloc)),
         }
     }
 

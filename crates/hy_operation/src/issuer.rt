@@ -38,6 +38,19 @@ impl Issuer {
         })
     }
 
+    /// A request to make this the record, where the record has the expected timestamp.
+    pub fn swap(&self, expected: Stamp, rec: Record) -> Out
+        ensures { result ≡ outs.Meta (asks.Swap self.now.client self.now.op self.now.key expected rec) }
+    {
+        Out::Meta(MetaAsk::Swap {
+            client: self.client,
+            op: self.op,
+            key: self.key,
+            expected,
+            rec,
+        })
+    }
+
     /// A request to be told once that the record has a timestamp above this one.
     pub fn watch(&self, stamp: Stamp) -> Out
         ensures { result ≡ outs.Meta (asks.Watch self.now.client self.now.op self.now.key stamp) }

@@ -187,6 +187,7 @@ UpdatesTo update (outs.Meta (asks.Read c o k)) = Unit {0}
 UpdatesTo update (outs.Meta (asks.Watch c o k s)) = Unit {0}
 UpdatesTo update (outs.Meta (asks.Olds c o k)) = Unit {0}
 UpdatesTo update (outs.Meta (asks.Forget c o k ss)) = Unit {0}
+UpdatesTo update (outs.Meta (asks.Swap c o k s r)) = Unit {0}
 
 puts-none : (plan : PutPlan) (update : Option RecordValue) (value : Option (List ℕ)) (stamp : Option Timestamp) (clouds : List ℕ) → All (UpdatesTo update) (puts_to plan value stamp clouds)
 puts-none plan update (Some value) (Some stamp) clouds = All-map (UpdatesTo update) _ clouds (all clouds)

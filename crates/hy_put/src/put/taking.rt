@@ -77,6 +77,8 @@ impl PutOp {
             MetaSay::Fired { .. } => Ok(Turn::quiet(alloc)),
             MetaSay::OldList { .. } => Ok(Turn::quiet(alloc)),
             MetaSay::Forgot { .. } => Ok(Turn::quiet(alloc)),
+            MetaSay::Swapped { .. } => Ok(Turn::quiet(alloc)),
+            MetaSay::Changed { .. } => Ok(Turn::quiet(alloc)),
         }
     }
 

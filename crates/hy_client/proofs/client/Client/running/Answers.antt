@@ -1,4 +1,4 @@
-use Rattle.std.proofs.Common.{◌≡◌, ◌∙◌, sym, ap}
+use Rattle.std.proofs.Common.{◌∙◌, sym, ap}
 use Rattle.std.specs.Prelude.{not}
 use Rattle.hy_client.proofs.Sessions.{running-some, running-none, none-running, running-told}
 use Rattle.hy_client.proofs.client.Client.running.Goals as goal

@@ -1,4 +1,4 @@
-use Rattle.std.proofs.Common.{◌≡◌, ◌∙◌, sym, refl}
+use Rattle.std.proofs.Common.{◌∙◌, sym, refl}
 use Rattle.hy_client.proofs.Sessions.{stopped-turn, stopped-stands, fresh-turn, fresh-stands, last-turn, last-stands, last-same, same-stands}
 use Rattle.hy_client.proofs.Tasks.{if-ok, on-ok, on-err}
 use Rattle.hy_client.proofs.client.Client.step.Goals as goal

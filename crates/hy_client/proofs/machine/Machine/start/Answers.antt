@@ -1,4 +1,4 @@
-use Rattle.std.proofs.Common.{◌≡◌, ◌∙◌, sym, ap, List, ℕ, [], Some, None}
+use Rattle.std.proofs.Common.{◌∙◌, sym, ap, List, ℕ, [], Some}
 use Rattle.hy_record.specs.declared.action.Action.{Action}
 use Rattle.hy_record.specs.declared.action.Action.TheVariants as asked
 use Rattle.hy_protocol.specs.Operations.{sends_of, write_plan}

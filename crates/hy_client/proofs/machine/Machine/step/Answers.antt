@@ -1,5 +1,4 @@
-use Rattle.std.proofs.Common.{List, ◌∷◌}
-use Rattle.hy_record.specs.declared.turn.Cue.{Cue}
+use Rattle.std.proofs.Common.{◌∷◌}
 use Rattle.hy_client.proofs.Tasks.{on-ok, on-err, put-runs, get-runs, collect-runs}
 use Rattle.hy_client.proofs.machine.Machine.step.Goals as goal
 

@@ -20,3 +20,11 @@ returns-in-OldList-clause-takes c =
 pub returns-in-Forgot-clause-takes : goal.returns-in-Forgot-clause-takes
 returns-in-Forgot-clause-takes c =
     λ inputs h. idle-goes _ c.args.self.now _ inputs _ _ h refl refl (other-idle c.args.self.now.state c.args.say.now (ap (λ (s : MetaSay). has_of (cues.Meta s)) c.in-Forgot.is) (λ t. ap (λ (s : MetaSay). is_fired t (cues.Meta s)) c.in-Forgot.is)) c.quiet-in-Forgot.ensures
+
+pub returns-in-Swapped-clause-takes : goal.returns-in-Swapped-clause-takes
+returns-in-Swapped-clause-takes c =
+    λ inputs h. idle-goes _ c.args.self.now _ inputs _ _ h refl refl (other-idle c.args.self.now.state c.args.say.now (ap (λ (s : MetaSay). has_of (cues.Meta s)) c.in-Swapped.is) (λ t. ap (λ (s : MetaSay). is_fired t (cues.Meta s)) c.in-Swapped.is)) c.quiet-in-Swapped.ensures
+
+pub returns-in-Changed-clause-takes : goal.returns-in-Changed-clause-takes
+returns-in-Changed-clause-takes c =
+    λ inputs h. idle-goes _ c.args.self.now _ inputs _ _ h refl refl (other-idle c.args.self.now.state c.args.say.now (ap (λ (s : MetaSay). has_of (cues.Meta s)) c.in-Changed.is) (λ t. ap (λ (s : MetaSay). is_fired t (cues.Meta s)) c.in-Changed.is)) c.quiet-in-Changed.ensures

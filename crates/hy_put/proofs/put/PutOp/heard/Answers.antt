@@ -13,3 +13,9 @@ returns-in-OldList c = λ plan own h. idle-goes plan c.args.self.now _ own _ _ h
 
 pub returns-in-Forgot : goal.returns-in-Forgot
 returns-in-Forgot c = λ plan own h. idle-goes plan c.args.self.now _ own _ _ h refl h.carries (ap (λ (s : MetaSay). has_of (cues.Meta s)) c.in-Forgot.is) refl (ap (λ (s : MetaSay). is_update_answer (cues.Meta s)) c.in-Forgot.is) (λ t i. refl) c.quiet-in-Forgot.ensures
+
+pub returns-in-Swapped : goal.returns-in-Swapped
+returns-in-Swapped c = λ plan own h. idle-goes plan c.args.self.now _ own _ _ h refl h.carries (ap (λ (s : MetaSay). has_of (cues.Meta s)) c.in-Swapped.is) refl (ap (λ (s : MetaSay). is_update_answer (cues.Meta s)) c.in-Swapped.is) (λ t i. refl) c.quiet-in-Swapped.ensures
+
+pub returns-in-Changed : goal.returns-in-Changed
+returns-in-Changed c = λ plan own h. idle-goes plan c.args.self.now _ own _ _ h refl h.carries (ap (λ (s : MetaSay). has_of (cues.Meta s)) c.in-Changed.is) refl (ap (λ (s : MetaSay). is_update_answer (cues.Meta s)) c.in-Changed.is) (λ t i. refl) c.quiet-in-Changed.ensures
