@@ -14,7 +14,8 @@ use Rattle.hy_client.specs.declared.client.Client.{Client}
 use Rattle.hy_client.specs.declared.fault.InvokeFault.{InvokeFault}
 use Rattle.hy_client.specs.declared.fault.InvokeFault.TheVariants as invoking
 use Rattle.hy_client.specs.Clients.{StandsForSession, invoke_refusal}
-use Rattle.hy_client.specs.Sizes.{size_refusal}
+use Rattle.hy_client.specs.Sizes.{size_refusal, is_swap}
+use Rattle.hy_protocol.specs.Operations.{suits}
 use Rattle.hy_drive.specs.declared.cloud_lines.CloudLines.{CloudLines}
 use Rattle.hy_drive.specs.declared.driver.Driver.{Driver}
 use Rattle.hy_drive.specs.declared.driver.Next.TheVariants.{Again}
@@ -53,32 +54,33 @@ fits (asked.Put key value) none = fits-by (length value) (nat_lt MAX_VALUE (leng
 fits (asked.Get key) none = refl
 fits (asked.Delete key) none = refl
 fits (asked.Collect key) none = refl
+fits (asked.Swap key expected value) none = fits-by (length value) (nat_lt MAX_VALUE (length value)) none
 
-pub fresh-refusal : (f k number : ℕ) (action : Action) → invoke_refusal (fresh_session f k number) action ≡ size_refusal action
+pub fresh-refusal : (f k number : ℕ) (action : Action) → suits action ≡ true → invoke_refusal (fresh_session f k number) action ≡ size_refusal action
 unfolding is_running
-fresh-refusal f k number action = refl
+fresh-refusal f k number action fitting = rw fitting refl
 
 pub accepted : {A : Type 0} (result : Result A InvokeFault) (refusal : Option InvokeFault) → IfSome refusal (λ wrong. result ≡ Err wrong) → (x : A) → result ≡ Ok x → refusal ≡ None
 accepted result None why x is = refl
 accepted {A = A} result (Some wrong) why x is = absurd (let e : ◌≡◌ {A = Result A InvokeFault} (Ok x) (Err wrong) = sym is ∙ why in cc)
 
-runs-new : (job : Job) (number : ℕ) (client : Client) → too_large job.action ≡ None → StandsForSession client (session_invoked (fresh_session job.f job.k number) job.action)
+runs-new : (job : Job) (number : ℕ) (client : Client) → too_large job.action ≡ None → is_swap job.action ≡ false → StandsForSession client (session_invoked (fresh_session job.f job.k number) job.action)
     → Runs job client (session_invoked (fresh_session job.f job.k number) job.action)
 unfolding session_invoked
-runs-new job number client fit stands = record { stands = stands; faults = refl; parts = refl; action = refl; fits = fit }
+runs-new job number client fit none stands = record { stands = stands; faults = refl; parts = refl; action = refl; fits = fit; no_swap = none }
 
-pub begins-new : (job : Job) (old new : Driver) (number : ℕ) (client : Client) → IsShape job.f job.k → SameLines old new → new.inputs ≡ old.inputs → new.client ≡ Some client → too_large job.action ≡ None
+pub begins-new : (job : Job) (old new : Driver) (number : ℕ) (client : Client) → IsShape job.f job.k → SameLines old new → new.inputs ≡ old.inputs → new.client ≡ Some client → too_large job.action ≡ None → is_swap job.action ≡ false
     → StandsForSession client (session_invoked (fresh_session job.f job.k number) job.action) → new.sends.items ≡ invoked_sends (fresh_session job.f job.k number) job.action
     → Begins job old new number (Ok Again)
-begins-new job old new number client shape same inputs is fit session sends state none sent goes stands =
+begins-new job old new number client shape same inputs is fit unswapped session sends state none sent goes stands =
     subst (λ (large : Option ℕ). BeginsTo job (invoked_by job state (fresh_session job.f job.k number) large) new (Ok Again)) (sym fit) (
       record {
         service = service-stands old new state.service same stands.service;
         lines = lines-stay old new state.lines same stands.lines;
-        client = subst (λ (held : Option Client). HoldsClient job held (Some (session_invoked (fresh_session job.f job.k number) job.action))) (sym is) (runs-new job number client fit session);
+        client = subst (λ (held : Option Client). HoldsClient job held (Some (session_invoked (fresh_session job.f job.k number) job.action))) (sym is) (runs-new job number client fit unswapped session);
         sends = sym sends;
         inputs = stands.inputs ∙ sym (ap (λ q. q.items) inputs);
-        sendable = subst (λ (outs : List Out). All IsSendableOut outs) (sym sends) (invoked-sendable (fresh_session job.f job.k number) job.action shape fit);
+        sendable = subst (λ (outs : List Out). All IsSendableOut outs) (sym sends) (invoked-sendable (fresh_session job.f job.k number) job.action shape fit unswapped);
       },
       goes,
     )
@@ -94,6 +96,7 @@ same-shape s input true is job client runs after stands = record {
   parts = ap (λ (b : Bool). (if b then record s { inputs = input ∷ s.inputs } else s).k) is ∙ runs.parts;
   action = ap (λ (b : Bool). (if b then record s { inputs = input ∷ s.inputs } else s).action) is ∙ runs.action;
   fits = runs.fits;
+  no_swap = runs.no_swap;
 }
 same-shape s input false is job client runs after stands = record {
   stands = stands;
@@ -101,6 +104,7 @@ same-shape s input false is job client runs after stands = record {
   parts = ap (λ (b : Bool). (if b then record s { inputs = input ∷ s.inputs } else s).k) is ∙ runs.parts;
   action = ap (λ (b : Bool). (if b then record s { inputs = input ∷ s.inputs } else s).action) is ∙ runs.action;
   fits = runs.fits;
+  no_swap = runs.no_swap;
 }
 
 sends-of : (s : Session) (input : Cue) → (session_turn s input).sends ≡ turn_sends s input
@@ -137,7 +141,7 @@ replies-by job client input reply turn state later (Some s) turns replies is hol
       after = handed state state.client input later;
       goes = hands state input later free sent inputs;
       replies = handed-reply state s input later reply is now;
-      suits = subst (λ (r : Option Reply). IfSome r (Suits job.action)) (sym (reply-of s input) ∙ now) (turn-suits s input job.action holds.action);
+      suits = subst (λ (r : Option Reply). IfSome r (Suits job.action)) (sym (reply-of s input) ∙ now) (turn-suits s input job.action holds.action holds.no_swap);
     }
 
 pub hands-reply : (job : Job) (old : Driver) (client : Client) (input : Cue) (reply : Reply) (turn : Turn) → old.client ≡ Some client
@@ -165,7 +169,7 @@ sends-by job old new client after input turn state later (Some s) shape turns go
         sends = sym outs;
         inputs = stands.inputs ∙ sym (ap (λ q. q.items) queue);
         sendable = subst (λ (l : List Out). All IsSendableOut l) (sym (outs ∙ sends-of s input))
-            (turn-sendable s input job.action (subst (λ (f : ℕ). IsShape f s.k) (sym holds.faults) (subst (λ (k : ℕ). IsShape job.f k) (sym holds.parts) shape)) holds.action holds.fits);
+            (turn-sendable s input job.action (subst (λ (f : ℕ). IsShape f s.k) (sym holds.faults) (subst (λ (k : ℕ). IsShape job.f k) (sym holds.parts) shape)) holds.action holds.fits holds.no_swap);
       };
       left = refl;
     }

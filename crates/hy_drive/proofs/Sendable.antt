@@ -29,6 +29,7 @@ use Rattle.hy_protocol.specs.Read.{Version, read_sends, read_reply, version_of, 
 use Rattle.hy_protocol.specs.Collect.{collect_sends, collect_reply, collect_sends_by, earlier_collect_sends, deletes, deletes_in, forget_of, forget_at, first_olds, since_olds}
 use Rattle.hy_protocol.specs.Operations.{sends_of, write_plan, read_plan, collect_plan}
 use Rattle.hy_protocol.specs.Session.{Session, sends_by as session_sends, turn_sends, invoked_sends, takes}
+use Rattle.hy_client.specs.Sizes.{is_swap}
 use Rattle.hy_drive.specs.Going.{too_large}
 use Rattle.hy_drive.specs.Standing.{IsSendableOut}
 
@@ -182,24 +183,29 @@ large-by : (size : ℕ) (value : List ℕ) (large : Bool) → nat_lt MAX_VALUE (
 large-by size value true is none = absurd (let e : ◌≡◌ {A = Option ℕ} (Some size) None = none in cc)
 large-by size value false is none = grind (arith, nat_tests)
 
-operations : (f k client op : ℕ) (action : Action) (inputs : List Cue) → IsShape f k → too_large action ≡ None → Sendable (sends_of f k client op action inputs)
+operations : (f k client op : ℕ) (action : Action) (inputs : List Cue) → IsShape f k → too_large action ≡ None → is_swap action ≡ false → Sendable (sends_of f k client op action inputs)
 unfolding sends_of
-operations f k client op (asked.Put key value) inputs shape fits = writes (write_plan f k client op key (Some value)) inputs shape (large-by (length value) value (nat_lt MAX_VALUE (length value)) refl fits)
-operations f k client op (asked.Delete key) inputs shape fits = writes (write_plan f k client op key None) inputs shape tt
-operations f k client op (asked.Get key) inputs shape fits = reads (read_plan client op key) inputs
-operations f k client op (asked.Collect key) inputs shape fits = collects (collect_plan f k client op key) inputs shape
+operations f k client op (asked.Put key value) inputs shape fits none = writes (write_plan f k client op key (Some value)) inputs shape (large-by (length value) value (nat_lt MAX_VALUE (length value)) refl fits)
+operations f k client op (asked.Delete key) inputs shape fits none = writes (write_plan f k client op key None) inputs shape tt
+operations f k client op (asked.Get key) inputs shape fits none = reads (read_plan client op key) inputs
+operations f k client op (asked.Collect key) inputs shape fits none = collects (collect_plan f k client op key) inputs shape
+operations f k client op (asked.Swap key expected value) inputs shape fits none = absurd cc
 
 -- what a client sends when it begins
-pub invoked-sendable : (s : Session) (action : Action) → IsShape s.f s.k → too_large action ≡ None → Sendable (invoked_sends s action)
+pub invoked-sendable : (s : Session) (action : Action) → IsShape s.f s.k → too_large action ≡ None → is_swap action ≡ false → Sendable (invoked_sends s action)
 unfolding invoked_sends
-invoked-sendable s action shape fits = operations s.f s.k s.client (s.begun + 1) action [] shape fits
+invoked-sendable s action shape fits none = operations s.f s.k s.client (s.begun + 1) action [] shape fits none
 
-session-by : (s : Session) (inputs : List Cue) (asks : Option Action) → IsShape s.f s.k → IfSome asks (λ action. too_large action ≡ None) → Sendable (session_sends s inputs asks)
-session-by s inputs None shape fits = All-nil IsSendableOut
-session-by s inputs (Some action) shape fits = operations s.f s.k s.client s.begun action inputs shape fits
+session-by : (s : Session) (inputs : List Cue) (asks : Option Action) → IsShape s.f s.k → IfSome asks (λ action. too_large action ≡ None) → IfSome asks (λ action. is_swap action ≡ false)
+    → Sendable (session_sends s inputs asks)
+session-by s inputs None shape fits none = All-nil IsSendableOut
+session-by s inputs (Some action) shape fits none = operations s.f s.k s.client s.begun action inputs shape fits none
 
 -- and at an input
-pub turn-sendable : (s : Session) (cue : Cue) (action : Action) → IsShape s.f s.k → s.action ≡ Some action → too_large action ≡ None → Sendable (turn_sends s cue)
+pub turn-sendable : (s : Session) (cue : Cue) (action : Action) → IsShape s.f s.k → s.action ≡ Some action → too_large action ≡ None → is_swap action ≡ false → Sendable (turn_sends s cue)
 unfolding turn_sends
-turn-sendable s cue action shape is fits =
-    either (takes s cue) _ _ (session-by s (cue ∷ s.inputs) s.action shape (subst (λ (asks : Option Action). IfSome asks (λ a. too_large a ≡ None)) (sym is) fits)) (All-nil IsSendableOut)
+turn-sendable s cue action shape is fits none =
+    either (takes s cue) _ _
+    (session-by s (cue ∷ s.inputs) s.action shape (subst (λ (asks : Option Action). IfSome asks (λ a. too_large a ≡ None)) (sym is) fits)
+    (subst (λ (asks : Option Action). IfSome asks (λ a. is_swap a ≡ false)) (sym is) none))
+    (All-nil IsSendableOut)

@@ -8,7 +8,8 @@ use Rattle.hy_record.specs.declared.turn.Out.{Out}
 use Rattle.hy_record.specs.declared.turn.Out.TheVariants as outs
 use Rattle.hy_mwire.specs.declared.message.Message.TheVariants.{Ask}
 use Rattle.hy_mwire.specs.Frames.{frame_of}
-use Rattle.hy_cwire.specs.Writing.{ask_bytes}
+use Rattle.hy_mwire.specs.Message.{IsMessage}
+use Rattle.hy_cwire.specs.Writing.{IsSendable, ask_bytes}
 use Rattle.hy_serve.specs.Course.{begins, calls, goes}
 use Rattle.hy_drive.specs.declared.driver.Driver.{Driver}
 use Rattle.hy_drive.specs.declared.fault.DriveFault.TheVariants.{NetFault, NoMemory}
@@ -42,28 +43,28 @@ again job driver state other stands service lines client sends inputs = record {
 pub service-starved : (driver : Driver) (ask : MetaAsk) → AsksService driver ask (Err NoMemory) []
 service-starved driver ask job state later free is stands = record { after = state; course = begins; shows = tt }
 
-service-asked-by : (driver : Driver) (ask : MetaAsk) (conn : ℕ) → HasService driver (Some conn) → (done : Bool) → (job : Job) (state : DriveState) (later : List Out) → IsFree state
+service-asked-by : (driver : Driver) (ask : MetaAsk) (conn : ℕ) → IsMessage (Ask ask) → HasService driver (Some conn) → (done : Bool) → (job : Job) (state : DriveState) (later : List Out) → IsFree state
     → state.sends ≡ outs.Meta ask ∷ later → StandsFor job driver (record state { sends = later })
     → DriveLeads job state (called (send conn (frame_of (Ask ask)) done) ∷ []) (service_asked state later done)
-service-asked-by driver ask conn has done job state later free is stands =
+service-asked-by driver ask conn known has done job state later free is stands =
     let at = has job (record state { sends = later }) stands in
-    calls [] state (service_asked state later done) (send conn (frame_of (Ask ask)) done) begins (asks_service state conn at.0 at.1 ask later done free is at.2)
+    calls [] state (service_asked state later done) (send conn (frame_of (Ask ask)) done) begins (asks_service state conn at.0 at.1 ask later done free is at.2 known)
 
-pub service-sent : (driver : Driver) (ask : MetaAsk) (conn : ℕ) (moves : List Move) → HasService driver (Some conn) → moves ≡ called (send conn (frame_of (Ask ask)) true) ∷ []
+pub service-sent : (driver : Driver) (ask : MetaAsk) (conn : ℕ) (moves : List Move) → IsMessage (Ask ask) → HasService driver (Some conn) → moves ≡ called (send conn (frame_of (Ask ask)) true) ∷ []
     → AsksService driver ask (Ok tt) moves
-service-sent driver ask conn moves has are job state later free is stands = record {
+service-sent driver ask conn moves known has are job state later free is stands = record {
   after = record state { sends = later };
-  course = subst (λ (m : List Move). DriveLeads job state m (record state { sends = later })) (sym are) (service-asked-by driver ask conn has true job state later free is stands);
+  course = subst (λ (m : List Move). DriveLeads job state m (record state { sends = later })) (sym are) (service-asked-by driver ask conn known has true job state later free is stands);
   free = record { clear = free.clear; goes = free.goes };
   stands = stands;
   left = refl;
 }
 
-pub service-failed : (driver : Driver) (ask : MetaAsk) (conn : ℕ) (moves : List Move) → HasService driver (Some conn) → moves ≡ called (send conn (frame_of (Ask ask)) false) ∷ []
+pub service-failed : (driver : Driver) (ask : MetaAsk) (conn : ℕ) (moves : List Move) → IsMessage (Ask ask) → HasService driver (Some conn) → moves ≡ called (send conn (frame_of (Ask ask)) false) ∷ []
     → AsksService driver ask (Err NetFault) moves
-service-failed driver ask conn moves has are job state later free is stands = record {
+service-failed driver ask conn moves known has are job state later free is stands = record {
   after = record state { outcome = broken };
-  course = subst (λ (m : List Move). DriveLeads job state m (record state { outcome = broken })) (sym are) (service-asked-by driver ask conn has false job state later free is stands);
+  course = subst (λ (m : List Move). DriveLeads job state m (record state { outcome = broken })) (sym are) (service-asked-by driver ask conn known has false job state later free is stands);
   shows = refl;
 }
 
@@ -86,13 +87,13 @@ dialled : (job : Job) (ask : CloudAsk) (state : DriveState) (later : List Out) (
 dialled job ask state later number free is =
     calls [] state (cloud_dialled state ask later number) (dial (cloud_port job.clouds ask) number) begins (dials_cloud state ask later number free is)
 
-asked : (job : Job) (ask : CloudAsk) (state : DriveState) (later : List Out) (conn : ℕ) (done : Bool) → IsFree state → state.sends ≡ outs.Cloud ask ∷ later
+asked : (job : Job) (ask : CloudAsk) (state : DriveState) (later : List Out) (conn : ℕ) (done : Bool) → IsSendable ask.wish → IsFree state → state.sends ≡ outs.Cloud ask ∷ later
     → DriveLeads job state (called (send conn (ask_bytes ask.wish (cloud_port job.clouds ask)) done) ∷ called (dial (cloud_port job.clouds ask) (Some conn)) ∷ [])
     (cloud_asked (cloud_dialled state ask later (Some conn)) conn ask done)
-asked job ask state later conn done free is =
+asked job ask state later conn done known free is =
     calls (called (dial (cloud_port job.clouds ask) (Some conn)) ∷ []) (cloud_dialled state ask later (Some conn)) (cloud_asked (cloud_dialled state ask later (Some conn)) conn ask done)
     (send conn (ask_bytes ask.wish (cloud_port job.clouds ask)) done) (dialled job ask state later (Some conn) free is)
-    (asks_cloud (cloud_dialled state ask later (Some conn)) conn ask done free.goes refl)
+    (asks_cloud (cloud_dialled state ask later (Some conn)) conn ask done free.goes refl known)
 
 -- the dial failed
 pub cloud-undialled : (job : Job) (old new : Driver) (ask : CloudAsk) (errand : Errand) (moves : List Move) → Lost old new errand → errand ≡ errand_of ask
@@ -117,48 +118,48 @@ cloud-starved-undialled job old new ask moves are state later free is stands = r
 abbrev pub sent-moves : Job → CloudAsk → ℕ → Bool → List Move
 sent-moves job ask conn done = called (send conn (ask_bytes ask.wish (cloud_port job.clouds ask)) done) ∷ called (dial (cloud_port job.clouds ask) (Some conn)) ∷ []
 
-pub cloud-sent : (job : Job) (old new : Driver) (ask : CloudAsk) (conn : ℕ) (errand : Errand) (kind : WishKind) (moves : List Move) → Awaited old new conn errand kind → errand ≡ errand_of ask
+pub cloud-sent : (job : Job) (old new : Driver) (ask : CloudAsk) (conn : ℕ) (errand : Errand) (kind : WishKind) (moves : List Move) → IsSendable ask.wish → Awaited old new conn errand kind → errand ≡ errand_of ask
     → kind ≡ kind_of ask.wish.act → moves ≡ sent-moves job ask conn true → AsksCloud job old new ask (Ok tt) moves
-cloud-sent job old new ask conn errand kind moves awaited for-it method are state later free is stands =
+cloud-sent job old new ask conn errand kind moves known awaited for-it method are state later free is stands =
     let after = cloud_asked (cloud_dialled state ask later (Some conn)) conn ask true in record {
       after = after;
-      course = subst (λ (m : List Move). DriveLeads job state m after) (sym are) (asked job ask state later conn true free is);
+      course = subst (λ (m : List Move). DriveLeads job state m after) (sym are) (asked job ask state later conn true known free is);
       free = record { clear = refl; goes = free.goes };
       stands = again job new (with_line (record state { sends = later }) conn (Some (record { ask = ask; bytes = [] }))) after
           (awaited job (record state { sends = later }) ask stands for-it method) refl refl refl refl refl;
       left = refl;
     }
 
-pub cloud-starved-sent : (job : Job) (old new : Driver) (ask : CloudAsk) (conn : ℕ) (moves : List Move) → moves ≡ sent-moves job ask conn true → AsksCloud job old new ask (Err NoMemory) moves
-cloud-starved-sent job old new ask conn moves are state later free is stands =
+pub cloud-starved-sent : (job : Job) (old new : Driver) (ask : CloudAsk) (conn : ℕ) (moves : List Move) → IsSendable ask.wish → moves ≡ sent-moves job ask conn true → AsksCloud job old new ask (Err NoMemory) moves
+cloud-starved-sent job old new ask conn moves known are state later free is stands =
     let after = cloud_asked (cloud_dialled state ask later (Some conn)) conn ask true in
-    record { after = after; course = subst (λ (m : List Move). DriveLeads job state m after) (sym are) (asked job ask state later conn true free is); shows = tt }
+    record { after = after; course = subst (λ (m : List Move). DriveLeads job state m after) (sym are) (asked job ask state later conn true known free is); shows = tt }
 
 -- the send failed, and the connection was closed
 abbrev pub closed-state : DriveState → List Out → CloudAsk → DriveState
 closed-state state later ask = record state { sends = later; pending = nothing; inputs = state.inputs ++ answer_to ask (Bad 0) ∷ [] }
 
-unsent : (job : Job) (ask : CloudAsk) (state : DriveState) (later : List Out) (conn : ℕ) → IsFree state → state.sends ≡ outs.Cloud ask ∷ later
+unsent : (job : Job) (ask : CloudAsk) (state : DriveState) (later : List Out) (conn : ℕ) → IsSendable ask.wish → IsFree state → state.sends ≡ outs.Cloud ask ∷ later
     → DriveLeads job state (called (close conn) ∷ sent-moves job ask conn false) (closed-state state later ask)
-unsent job ask state later conn free is =
+unsent job ask state later conn known free is =
     calls (sent-moves job ask conn false) (cloud_asked (cloud_dialled state ask later (Some conn)) conn ask false) (closed-state state later ask) (close conn)
-    (asked job ask state later conn false free is) (closes (cloud_asked (cloud_dialled state ask later (Some conn)) conn ask false) conn free.goes refl)
+    (asked job ask state later conn false known free is) (closes (cloud_asked (cloud_dialled state ask later (Some conn)) conn ask false) conn free.goes refl)
 
-pub cloud-unsent : (job : Job) (old new : Driver) (ask : CloudAsk) (conn : ℕ) (errand : Errand) (moves : List Move) → Lost old new errand → errand ≡ errand_of ask
+pub cloud-unsent : (job : Job) (old new : Driver) (ask : CloudAsk) (conn : ℕ) (errand : Errand) (moves : List Move) → IsSendable ask.wish → Lost old new errand → errand ≡ errand_of ask
     → moves ≡ called (close conn) ∷ sent-moves job ask conn false → AsksCloud job old new ask (Ok tt) moves
-cloud-unsent job old new ask conn errand moves lost for-it are state later free is stands = record {
+cloud-unsent job old new ask conn errand moves known lost for-it are state later free is stands = record {
   after = closed-state state later ask;
-  course = subst (λ (m : List Move). DriveLeads job state m (closed-state state later ask)) (sym are) (unsent job ask state later conn free is);
+  course = subst (λ (m : List Move). DriveLeads job state m (closed-state state later ask)) (sym are) (unsent job ask state later conn known free is);
   free = record { clear = refl; goes = free.goes };
   stands = again job new (record state { sends = later; inputs = state.inputs ++ answer_to ask (Bad 0) ∷ [] }) (closed-state state later ask)
       (lost job (record state { sends = later }) ask stands for-it) refl refl refl refl refl;
   left = refl;
 }
 
-pub cloud-starved-unsent : (job : Job) (old new : Driver) (ask : CloudAsk) (conn : ℕ) (moves : List Move) → moves ≡ called (close conn) ∷ sent-moves job ask conn false
+pub cloud-starved-unsent : (job : Job) (old new : Driver) (ask : CloudAsk) (conn : ℕ) (moves : List Move) → IsSendable ask.wish → moves ≡ called (close conn) ∷ sent-moves job ask conn false
     → AsksCloud job old new ask (Err NoMemory) moves
-cloud-starved-unsent job old new ask conn moves are state later free is stands =
-    record { after = closed-state state later ask; course = subst (λ (m : List Move). DriveLeads job state m (closed-state state later ask)) (sym are) (unsent job ask state later conn free is); shows = tt }
+cloud-starved-unsent job old new ask conn moves known are state later free is stands =
+    record { after = closed-state state later ask; course = subst (λ (m : List Move). DriveLeads job state m (closed-state state later ask)) (sym are) (unsent job ask state later conn known free is); shows = tt }
 
 -- it stands for some state still
 pub lost-stands : (old new : Driver) (ask : CloudAsk) (errand : Errand) → Lost old new errand → errand ≡ errand_of ask → StandsOn old new

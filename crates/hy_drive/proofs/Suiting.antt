@@ -18,6 +18,7 @@ use Rattle.hy_protocol.specs.Read.{Version, read_reply, answer_of, answer_for, v
 use Rattle.hy_protocol.specs.Collect.{collect_reply, collected_by, nothing_by, forget_of, first_olds}
 use Rattle.hy_protocol.specs.Operations.{replied, write_plan, collect_plan}
 use Rattle.hy_protocol.specs.Session.{Session, reply_by, turn_reply, takes}
+use Rattle.hy_client.specs.Sizes.{is_swap}
 use Rattle.hy_drive.specs.Role.{Suits}
 
 either : (P : Reply → Type 0) (test : Bool) (here there : Option Reply) → IfSome here P → IfSome there P → IfSome (if test then here else there) P
@@ -79,18 +80,19 @@ collects-suit P collected plan (cue ∷ before) =
     or-else P (collect_reply plan before) _ (collects-suit P collected plan before)
     (or-else P (collected_by (forget_of plan before) cue) _ (collected-suits P collected (forget_of plan before) cue) (nothing-suits P collected (first_olds (cue ∷ before))))
 
-operations-suit : (f k client op : ℕ) (action : Action) (inputs : List Cue) → IfSome (replied f k client op action inputs) (Suits action)
+operations-suit : (f k client op : ℕ) (action : Action) (inputs : List Cue) → is_swap action ≡ false → IfSome (replied f k client op action inputs) (Suits action)
 unfolding replied
-operations-suit f k client op (asked.Put key value) inputs = writes-suit (Suits (asked.Put key value)) (λ stamp. tt) (λ stamp. tt) (write_plan f k client op key (Some value)) inputs
-operations-suit f k client op (asked.Delete key) inputs = writes-suit (Suits (asked.Delete key)) (λ stamp. tt) (λ stamp. tt) (write_plan f k client op key None) inputs
-operations-suit f k client op (asked.Get key) inputs = reads-suit (Suits (asked.Get key)) (λ value stamp. tt) (λ stamp. tt) inputs
-operations-suit f k client op (asked.Collect key) inputs = collects-suit (Suits (asked.Collect key)) (λ count. tt) (collect_plan f k client op key) inputs
+operations-suit f k client op (asked.Put key value) inputs none = writes-suit (Suits (asked.Put key value)) (λ stamp. tt) (λ stamp. tt) (write_plan f k client op key (Some value)) inputs
+operations-suit f k client op (asked.Delete key) inputs none = writes-suit (Suits (asked.Delete key)) (λ stamp. tt) (λ stamp. tt) (write_plan f k client op key None) inputs
+operations-suit f k client op (asked.Get key) inputs none = reads-suit (Suits (asked.Get key)) (λ value stamp. tt) (λ stamp. tt) inputs
+operations-suit f k client op (asked.Collect key) inputs none = collects-suit (Suits (asked.Collect key)) (λ count. tt) (collect_plan f k client op key) inputs
+operations-suit f k client op (asked.Swap key expected value) inputs none = absurd cc
 
-session-suits : (s : Session) (inputs : List Cue) (action : Action) (asks : Option Action) → asks ≡ Some action → IfSome (reply_by s inputs asks) (Suits action)
-session-suits s inputs action asks is =
-    subst (λ (a : Option Action). IfSome (reply_by s inputs a) (Suits action)) (sym is) (operations-suit s.f s.k s.client s.begun action inputs)
+session-suits : (s : Session) (inputs : List Cue) (action : Action) (asks : Option Action) → asks ≡ Some action → is_swap action ≡ false → IfSome (reply_by s inputs asks) (Suits action)
+session-suits s inputs action asks is none =
+    subst (λ (a : Option Action). IfSome (reply_by s inputs a) (Suits action)) (sym is) (operations-suit s.f s.k s.client s.begun action inputs none)
 
 -- the reply of a turn
-pub turn-suits : (s : Session) (cue : Cue) (action : Action) → s.action ≡ Some action → IfSome (turn_reply s cue) (Suits action)
+pub turn-suits : (s : Session) (cue : Cue) (action : Action) → s.action ≡ Some action → is_swap action ≡ false → IfSome (turn_reply s cue) (Suits action)
 unfolding turn_reply
-turn-suits s cue action is = either (Suits action) (takes s cue) _ _ (session-suits s (cue ∷ s.inputs) action s.action is) tt
+turn-suits s cue action is none = either (Suits action) (takes s cue) _ _ (session-suits s (cue ∷ s.inputs) action s.action is none) tt

@@ -8,7 +8,8 @@ use Rattle.hy_record.specs.declared.turn.Out.{Out}
 use Rattle.hy_record.specs.declared.turn.Out.TheVariants.{Meta, Cloud}
 use Rattle.hy_mwire.specs.declared.message.Message.TheVariants.{Join, Ask}
 use Rattle.hy_mwire.specs.Frames.{frame_of}
-use Rattle.hy_cwire.specs.Writing.{ask_bytes}
+use Rattle.hy_mwire.specs.Message.{IsMessage}
+use Rattle.hy_cwire.specs.Writing.{IsSendable, ask_bytes}
 use Rattle.hy_drive.specs.declared.job.Job.{Job}
 use Rattle.hy_drive.specs.State.{DriveState, undialled, dialled, live, nothing, asking, closing, going, broken, with_line, cloud_port, answer_to, IsFree}
 
@@ -52,6 +53,7 @@ pub data DriveCalls (job : Job) : DriveState → Call → DriveState → Type 0 
   asks_service : (before : DriveState) (conn : ℕ) (rest : List ℕ) (place : ℕ)
       (ask : MetaAsk) (later : List Out) (done : Bool)
       → IsFree before → before.sends ≡ Meta ask ∷ later → before.service ≡ live conn rest place
+      → IsMessage (Ask ask)
       → DriveCalls job before
       (send conn (frame_of (Ask ask)) done)
       (service_asked before later done)
@@ -62,7 +64,7 @@ pub data DriveCalls (job : Job) : DriveState → Call → DriveState → Type 0 
       (dial (cloud_port job.clouds ask) number)
       (cloud_dialled before ask later number)
   asks_cloud : (before : DriveState) (conn : ℕ) (ask : CloudAsk) (done : Bool)
-      → before.outcome ≡ going → before.pending ≡ asking conn ask
+      → before.outcome ≡ going → before.pending ≡ asking conn ask → IsSendable ask.wish
       → DriveCalls job before
       (send conn (ask_bytes ask.wish (cloud_port job.clouds ask)) done)
       (cloud_asked before conn ask done)

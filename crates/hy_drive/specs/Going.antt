@@ -27,6 +27,8 @@ too_large (asked.Put key value) =
 too_large (asked.Get key) = None
 too_large (asked.Delete key) = None
 too_large (asked.Collect key) = None
+too_large (asked.Swap key expected value) =
+    if nat_lt MAX_VALUE (length value) then Some (length value) else None
 
 -- the client's turn: its messages are due to be sent, or it has its reply
 abbrev pub turned_by : DriveState → List Out → Option Reply → DriveState

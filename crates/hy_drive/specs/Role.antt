@@ -1,10 +1,12 @@
 -- The client's side of the protocol over a net: how it plays, and why it ends.
-use Rattle.std.specs.Prelude.{◌≡◌, ℕ, suc, List, Option, Some, None, Result, Err, IfOk, IsErrOf, ◌⊎◌}
+use Rattle.std.specs.Prelude.{◌≡◌, ℕ, true, false, suc, List, Option, Some, None, Result, Err, IfOk, IsErrOf, ◌⊎◌}
 use Rattle.hy_base.specs.Moves.{Move}
 use Rattle.hy_record.specs.declared.action.Action.{Action}
 use Rattle.hy_record.specs.declared.action.Action.TheVariants as asked
 use Rattle.hy_record.specs.declared.action.Reply.{Reply}
 use Rattle.hy_record.specs.declared.action.Reply.TheVariants as told
+use Rattle.hy_protocol.specs.Operations.{suits}
+use Rattle.hy_client.specs.Sizes.{is_swap}
 use Rattle.hy_protocol.specs.Progress.{Progress}
 use Rattle.hy_protocol.specs.Session.{Session, session_progress}
 use Rattle.hy_serve.specs.Course.{Leads}
@@ -66,6 +68,11 @@ pub record DrivesOn (job : Job) (start : DriveState)
 -- how a client that is to take so many arrivals played, and why it ended
 abbrev pub Drives : Job → ℕ → Result Reply DriveFault → List Move → Type 0
 Drives job arrivals result moves = DrivesOn job (drive_begun arrivals) result moves
+
+-- frames can carry what the action asks of the service, and its key is of its kind
+pub record IsDrivable (action : Action) : Type 0 where
+  pub no_swap : is_swap action ≡ false
+  pub key : suits action ≡ true
 
 -- the reply is one of the action
 abbrev pub Suits : Action → Reply → Type 0

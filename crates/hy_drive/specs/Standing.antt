@@ -1,8 +1,10 @@
 -- What a client over a net keeps of the state that it is in.
-use Rattle.std.specs.Prelude.{◌≡◌, ◌≤◌, ℕ, All, Option, Some, None}
+use Rattle.std.specs.Prelude.{◌≡◌, ◌≤◌, ℕ, false, All, Option, Some, None}
 use Rattle.hy_record.specs.declared.turn.Out.{Out}
 use Rattle.hy_record.specs.declared.turn.Out.TheVariants.{Meta, Cloud}
 use Rattle.hy_cwire.specs.Writing.{IsSendableAct}
+use Rattle.hy_mwire.specs.Message.{IsFramedAsk}
+use Rattle.hy_client.specs.Sizes.{is_swap}
 use Rattle.hy_protocol.specs.Session.{Session}
 use Rattle.hy_client.specs.declared.client.Client.{Client}
 use Rattle.hy_client.specs.Clients.{StandsForSession}
@@ -19,6 +21,7 @@ pub record Runs (job : Job) (client : Client) (s : Session) : Type 0 where
   pub parts : s.k ≡ job.k
   pub action : s.action ≡ Some job.action
   pub fits : too_large job.action ≡ None
+  pub no_swap : is_swap job.action ≡ false
 
 abbrev pub HoldsClient : Job → Option Client → Option Session → Type 0
 HoldsClient job None None = Unit {0}
@@ -26,9 +29,9 @@ HoldsClient job (Some client) (Some s) = Runs job client s
 HoldsClient job None (Some s) = ⊥
 HoldsClient job (Some client) None = ⊥
 
--- a message that can be sent: to a cloud that can be there, and a put of no more than a value
+-- a message that can be sent: to the service one that has a frame, to a cloud that can be there, and a put of no more than a value
 abbrev pub IsSendableOut : Out → Type 0
-IsSendableOut (Meta ask) = Unit {0}
+IsSendableOut (Meta ask) = IsFramedAsk ask
 IsSendableOut (Cloud ask) = (ask.cloud ≤ 15) × IsSendableAct ask.wish.act
 
 -- it is in this state, but for what is due before all else, and for how it ends

@@ -210,6 +210,7 @@ abbrev pub refusal_of : InvokeFault → DriveFault
 refusal_of (invoking.TooLarge size) = TooLarge size
 refusal_of invoking.Stopped = NoMemory
 refusal_of (invoking.Busy op) = NoMemory
+refusal_of invoking.WrongKey = NoMemory
 refusal_of invoking.NoMemory = NoMemory
 
 -- ---- the parts that calls change

@@ -4,6 +4,7 @@ ghost use Rattle.std.specs.Prelude.{◌≡◌, ◌≤◌, IsErrOf, OnOk};
 ghost use Rattle.hy_base.specs.Faults.{Rose};
 ghost use Rattle.hy_base.specs.Net.{Adds};
 ghost use Rattle.hy_cwire.specs.Writing.{IsSendableAct};
+ghost use Rattle.hy_mwire.specs.Message.{IsFramedAsk};
 ghost use Rattle.hy_drive.specs.Standing.{IsSome, IsSendableOut};
 ghost use Rattle.hy_drive.specs.declared.job.Job.{Job as JobValue};
 ghost use Rattle.hy_drive.specs.Stepping.{OnLarge, SendsOut, AsksService, AsksCloud, StandsOn};
@@ -51,6 +52,7 @@ fn ask_service<N: Net>(
     driver: &Driver,
     ask: MetaAsk,
 ) -> Result<(), DriveFault>
+    requires { IsFramedAsk ask }
     ensures plays { Adds N.told N.tells net.old net.new (AsksService driver.now ask result) }
     ensures large { (job : JobValue) → OnLarge job result }
     ensures taking { N.taking_faults net.new ≡ N.taking_faults net.old }

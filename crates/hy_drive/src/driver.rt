@@ -6,6 +6,7 @@ ghost use Rattle.hy_base.specs.declared.arrival.Arrived.TheVariants as came_as;
 ghost use Rattle.hy_mwire.specs.Message.{IsMessage};
 ghost use Rattle.hy_base.specs.Moves.{came, InBuffer};
 ghost use Rattle.hy_base.specs.Shape.{IsShape};
+ghost use Rattle.hy_drive.specs.Role.{IsDrivable};
 ghost use Rattle.hy_drive.specs.declared.job.Job.{Job as JobValue};
 ghost use Rattle.hy_drive.specs.State.{DriveState, IsFree};
 ghost use Rattle.hy_drive.specs.Standing.{StandsFor, IsHeld};
@@ -147,6 +148,7 @@ impl Driver {
     /// handed in, then the next message of the service is heard.
     pub(crate) fn next(&mut self, alloc: Global, job: &Job) -> Result<Next, DriveFault>
         requires shape { IsShape job.now.f job.now.k }
+        requires drives { IsDrivable job.now.action }
         requires held { IsHeld self.old }
         ensures { (state : DriveState) → IsFree state → StandsFor job.now self.old state
             → Follows job.now state self.new result }
@@ -160,6 +162,7 @@ impl Driver {
     /// The same, where no message is due.
     fn after_sends(&mut self, alloc: Global, job: &Job) -> Result<Next, DriveFault>
         requires shape { IsShape job.now.f job.now.k }
+        requires drives { IsDrivable job.now.action }
         requires held { IsHeld self.old }
         ensures { (state : DriveState) → IsFree state → state.sends ≡ []
             → StandsFor job.now self.old state → Follows job.now state self.new result }
@@ -192,6 +195,7 @@ impl Driver {
     /// The next message of the service is heard, if one is whole.
     fn listen(&mut self, alloc: Global, job: &Job) -> Result<Next, DriveFault>
         requires shape { IsShape job.now.f job.now.k }
+        requires drives { IsDrivable job.now.action }
         requires held { IsHeld self.old }
         ensures { (state : DriveState) → IsFree state → state.sends ≡ [] → state.inputs ≡ []
             → StandsFor job.now self.old state → Follows job.now state self.new result }
@@ -205,6 +209,7 @@ impl Driver {
     /// What the message of the service does.
     fn hear(&mut self, alloc: Global, job: &Job, message: Message) -> Result<Next, DriveFault>
         requires shape { IsShape job.now.f job.now.k }
+        requires drives { IsDrivable job.now.action }
         requires known { IsMessage message }
         ensures { Tells job.now self.old self.new message result }
     {
@@ -239,6 +244,7 @@ impl Driver {
         message: Message,
     ) -> Result<Next, DriveFault>
         requires shape { IsShape job.now.f job.now.k }
+        requires drives { IsDrivable job.now.action }
         requires known { IsMessage message }
         ensures { HearsSession job.now self.old self.new message result }
     {
@@ -254,6 +260,7 @@ impl Driver {
     /// The client of this number begins the job's action.
     fn begin(&mut self, alloc: Global, job: &Job, number: u32) -> Result<Next, DriveFault>
         requires shape { IsShape job.now.f job.now.k }
+        requires drives { IsDrivable job.now.action }
         requires known { 1 ≤ number }
         ensures { Begins job.now self.old self.new number result }
     {
@@ -323,6 +330,9 @@ fn refusal(fault: InvokeFault) -> DriveFault
 {
     match fault {
         InvokeFault::TooLarge(size) => DriveFault::TooLarge(size),
-        _ => DriveFault::NoMemory,
+        InvokeFault::Stopped
+        | InvokeFault::Busy(_)
+        | InvokeFault::WrongKey
+        | InvokeFault::NoMemory => DriveFault::NoMemory,
     }
 }

@@ -4,7 +4,7 @@ ghost use Rattle.std.specs.Prelude.{◌≡◌, ◌≤◌, IfOk, IsErrOf, ◌⊎�
 ghost use Rattle.hy_base.specs.Faults.{Rose};
 ghost use Rattle.hy_base.specs.Net.{Adds};
 ghost use Rattle.hy_base.specs.Shape.{IsShape};
-ghost use Rattle.hy_drive.specs.Role.{Drives, Suits};
+ghost use Rattle.hy_drive.specs.Role.{Drives, IsDrivable, Suits};
 ghost use Rattle.hy_drive.specs.Standing.{IsResting};
 ghost use Rattle.hy_drive.specs.Stepping.{Joins, Closes, PlaysOn, OnLarge};
 ghost use Rattle.hy_drive.specs.declared.fault.DriveFault.TheVariants as faults;
@@ -30,6 +30,7 @@ pub fn drive_client<N: Net>(
     arrivals: u32,
 ) -> Result<Reply, DriveFault>
     requires shape { IsShape job.now.f job.now.k }
+    requires drives { IsDrivable job.now.action }
     requires ports { job.now.clouds ≤ 65520 }
     ensures plays { Adds N.told N.tells net.old net.new (Drives job.now arrivals result) }
     ensures suits { IfOk result (Suits job.now.action) }
@@ -69,6 +70,7 @@ fn drive_over<N: Net>(
     buf: &mut [u8],
 ) -> Result<Reply, DriveFault>
     requires shape { IsShape job.now.f job.now.k }
+    requires drives { IsDrivable job.now.action }
     requires ports { job.now.clouds ≤ 65520 }
     requires rests { IsResting job.now driver.old }
     ensures plays { Adds N.told N.tells net.old net.new

@@ -4,6 +4,7 @@ ghost use Rattle.std.specs.Prelude.{◌≡◌, ◌≤◌, IsErrOf, IfOk};
 ghost use Rattle.hy_base.specs.Faults.{Rose};
 ghost use Rattle.hy_base.specs.Net.{Adds};
 ghost use Rattle.hy_base.specs.Shape.{IsShape};
+ghost use Rattle.hy_drive.specs.Role.{IsDrivable};
 ghost use Rattle.hy_drive.specs.Standing.{IsSome};
 ghost use Rattle.hy_drive.specs.Stepping.{Goes, GoesSoundly, Settles, SettlesSoundly};
 ghost use Rattle.hy_drive.specs.declared.fault.DriveFault.TheVariants as faults;
@@ -27,6 +28,7 @@ pub(crate) fn settle<N: Net>(
     driver: &mut Driver,
 ) -> Result<Option<Reply>, DriveFault>
     requires shape { IsShape job.now.f job.now.k }
+    requires drives { IsDrivable job.now.action }
     requires ports { job.now.clouds ≤ 65520 }
     requires stands { IsSome job.now driver.old }
     ensures plays { Adds N.told N.tells net.old net.new
@@ -66,6 +68,7 @@ fn go<N: Net>(
     driver: &mut Driver,
 ) -> Result<Step, DriveFault>
     requires shape { IsShape job.now.f job.now.k }
+    requires drives { IsDrivable job.now.action }
     requires ports { job.now.clouds ≤ 65520 }
     requires stands { IsSome job.now driver.old }
     ensures plays { Adds N.told N.tells net.old net.new (Goes job.now driver.old driver.new result) }

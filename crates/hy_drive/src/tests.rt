@@ -1,6 +1,8 @@
 //! Runs over a net in memory: what is answered, and what was done on the net.
 
-ghost use Rattle.std.specs.Prelude.{◌≡◌};
+ghost use Rattle.std.specs.Prelude.{◌≡◌, false, IfOk};
+ghost use Rattle.hy_record.specs.Key.{is_cell};
+ghost use Rattle.hy_drive.specs.Role.{IsDrivable};
 
 use super::*;
 use hy_base::{Arrived, Blob, NetCall, NetTape};
@@ -41,6 +43,7 @@ fn job(action: Action) -> Job
     ensures f { result.f ≡ 0 }
     ensures k { result.k ≡ 1 }
     ensures clouds { result.clouds ≡ 7100 }
+    ensures action { result.action ≡ action }
 {
     Job {
         f: 0,
@@ -51,9 +54,22 @@ fn job(action: Action) -> Job
     }
 }
 
-/// A put of `abc` under the key `a`.
-fn put(alloc: Global) -> Result<Action, Fail> {
+/// The key `a`.
+fn key_a() -> Result<Key, Fail>
+    ensures { IfOk result (λ key. is_cell key ≡ false) }
+{
     let key = Key::read(b"a").ok().ok_or("a key")?;
+    if key.is_cell() {
+        Err("a compare-and-swap key")?;
+    }
+    Ok(key)
+}
+
+/// A put of `abc` under the key `a`.
+fn put(alloc: Global) -> Result<Action, Fail>
+    ensures { IfOk result IsDrivable }
+{
+    let key = key_a()?;
     let value = Blob::copy_of(alloc, b"abc")?;
     Ok(Action::Put { key, value })
 }
@@ -212,7 +228,7 @@ fn sessions_full(rt: HostRuntime) -> Result<(), Fail> {
 #[test]
 fn too_large(rt: HostRuntime) -> Result<(), Fail> {
     let alloc = rt.alloc();
-    let key = Key::read(b"a").ok().ok_or("a key")?;
+    let key = key_a()?;
     let value = Blob::of(vec![in alloc; 0u8; 1048577]?);
     let job = job(Action::Put { key, value });
     let mut net = tape(alloc, &[Came::Frames(JOINED)], &[])?;
@@ -327,7 +343,7 @@ fn a_service_that_closes(rt: HostRuntime) -> Result<(), Fail> {
 #[test]
 fn get_over_net(rt: HostRuntime) -> Result<(), Fail> {
     let alloc = rt.alloc();
-    let key = Key::read(b"a").ok().ok_or("a key")?;
+    let key = key_a()?;
     let job = job(Action::Get { key });
     let script = [
         Came::Frames(JOINED),
@@ -346,7 +362,7 @@ fn get_over_net(rt: HostRuntime) -> Result<(), Fail> {
 #[test]
 fn delete_over_net(rt: HostRuntime) -> Result<(), Fail> {
     let alloc = rt.alloc();
-    let key = Key::read(b"a").ok().ok_or("a key")?;
+    let key = key_a()?;
     let job = job(Action::Delete { key });
     let script = [
         Came::Frames(JOINED),

@@ -1,6 +1,6 @@
 -- What is read from a body is the message with this body, and each message is read from its body.
-use Rattle.std.proofs.Common.{◌≡◌, ℕ, zero, suc, ◌+◌, ◌^◌, ◌<◌, ◌≤◌, Bool, true, false, cond, List, [], ◌∷◌, ◌++◌, length, All, Option, Some, None, Result, Ok, Err, refl, sym, ap, subst, ◌∙◌, append_assoc, arith}
-use Rattle.std.specs.Prelude.{IsTrue, ◌==◌, nat_lt}
+use Rattle.std.proofs.Common.{◌≡◌, ℕ, zero, suc, ◌^◌, ◌<◌, ◌≤◌, true, false, cond, List, [], ◌∷◌, ◌++◌, length, All, Option, Some, None, refl, sym, ap, subst, ◌∙◌, append_assoc, arith}
+use Rattle.std.specs.Prelude.{◌==◌, nat_lt}
 use Rattle.std.specs.Result.{result_ok}
 use Rattle.std.specs.List.{flat_map}
 use Rattle.std.proofs.lemmas.Bool.Decides.{nat_tests}
@@ -285,6 +285,7 @@ ask_again (asks.Olds client op key) is = ask_parts ask_kinds.Olds _ (operation_b
 ask_again (asks.Forget client op key stamps) is =
     ask_parts ask_kinds.Forget _ (operation_bytes client op key ++ stamps_bytes stamps) (stamps_bytes stamps) (Ask (asks.Forget client op key stamps)) (operation_again client op key (stamps_bytes stamps) is.0)
     (one_part (stamps_in (stamps_bytes stamps)) stamps (λ s. Ask (asks.Forget client op key s)) (list_again stamps is.1))
+ask_again (asks.Swap client op key expected rec) is = absurd is
 
 say_again : (say : MetaSay) → IsSay say → message_in (kinds.Say (say_kind say)) (say_fields say) ≡ Some (Say say)
 unfolding say_in
@@ -304,6 +305,8 @@ say_again (says.OldList client op key stamps) is =
     say_parts say_kinds.OldList _ (operation_bytes client op key ++ stamps_bytes stamps) (stamps_bytes stamps) (Say (says.OldList client op key stamps)) (operation_again client op key (stamps_bytes stamps) is.0)
     (one_part (stamps_in (stamps_bytes stamps)) stamps (λ s. Say (says.OldList client op key s)) (list_again stamps is.1))
 say_again (says.Forgot client op key) is = say_parts say_kinds.Forgot _ (operation_bytes client op key) [] (Say (says.Forgot client op key)) (alone client op key is) refl
+say_again (says.Swapped client op key stamp) is = absurd is
+say_again (says.Changed client op key stamp) is = absurd is
 
 -- a message is read from its fields
 pub message_again : (said : Message) → IsMessage said → message_in (message_kind said) (message_fields said) ≡ Some said

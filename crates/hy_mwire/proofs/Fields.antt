@@ -1,10 +1,9 @@
 -- A field that is read is the field that was written, and what was written is read again.
-use Rattle.std.proofs.Common.{◌≡◌, ℕ, zero, suc, ◌+◌, ◌^◌, ◌<◌, ◌≤◌, Bool, true, false, not, cond, ltb, List, [], ◌∷◌, ◌++◌, length, get_or, take, drop, Option, Some, None, Result, Ok, Err, refl, sym, ap, subst, ◌∙◌, append_assoc, arith, inl, inr, lit<}
-use Rattle.std.specs.Prelude.{IsTrue, ◌⊎◌, ◌==◌, nat_lt}
+use Rattle.std.proofs.Common.{◌≡◌, ℕ, ◌^◌, ◌<◌, ◌≤◌, Bool, true, false, not, cond, ltb, List, [], ◌∷◌, ◌++◌, length, take, drop, Option, Some, None, Result, Ok, Err, refl, sym, ap, subst, ◌∙◌, arith, inl, inr, lit<}
+use Rattle.std.specs.Prelude.{IsTrue, ◌==◌, nat_lt}
 use Rattle.hy_base.specs.declared.limits.TheConstants.{MAX_KEY, SN_END}
 use Rattle.std.specs.Result.{result_ok}
-use Rattle.std.specs.List.{list_all, position, prefix_len, position_or_len}
-use Rattle.std.specs.Int.{byte_at}
+use Rattle.std.specs.List.{list_all, prefix_len, position_or_len}
 use Rattle.std.proofs.Math.Nat.{mod-eq_of_lt}
 use Rattle.std.proofs.lemmas.Bool.{ltb-false, le-ltb, cases_lt}
 use Rattle.std.proofs.lemmas.Bool.Decides.{nat_tests}

@@ -1,7 +1,7 @@
 -- What stands in front of a stream, by its bytes; that it stays there whatever follows.
-use Rattle.std.proofs.Common.{◌≡◌, ◌≢◌, ℕ, zero, suc, ◌+◌, ◌-◌, ◌^◌, ◌<◌, ◌≤◌, Bool, true, false, cond, ltb, List, [], ◌∷◌, ◌++◌, length, get_or, take, drop, All, Option, Some, None, refl, sym, ap, subst, ◌∙◌, append_assoc, arith, inl, inr, lit<}
+use Rattle.std.proofs.Common.{◌≡◌, ◌≢◌, ℕ, suc, ◌+◌, ◌<◌, ◌≤◌, false, List, [], ◌∷◌, ◌++◌, length, take, drop, Option, Some, None, refl, sym, ap, subst, ◌∙◌, append_assoc, arith, inl, inr, lit<}
 use Rattle.std.specs.Prelude.{◌⊎◌, nat_lt}
-use Rattle.std.proofs.lemmas.Bool.{ltb-false, ltb-true, le-ltb, lt-ltb, cases_lt}
+use Rattle.std.proofs.lemmas.Bool.{le-ltb, lt-ltb, cases_lt}
 use Rattle.std.proofs.lemmas.List.{append_cancel_left, take_at, drop_at, take-append-drop, take-append-le, drop-append-le, length-append, length-take, length-drop, get_or_past}
 use Rattle.std.proofs.lemmas.List.Elements.{All-get_or, All-from_get_or}
 use Rattle.byteorder.specs.Endian.{big_bytes, big_number}
@@ -16,7 +16,7 @@ use Rattle.hy_mwire.specs.Kind.{kind_byte, kind_of}
 use Rattle.hy_mwire.specs.Message.{IsMessage}
 use Rattle.hy_mwire.specs.Frames.{message_kind, message_fields, body_of, frame_of}
 use Rattle.hy_mwire.specs.Reading.{message_in}
-use Rattle.hy_mwire.specs.Front.{Front, partial, message, fault, message_or, kind_or, judged, frame_at, front_at, AreBytes, IsPartial, HasBody, IsUnreadable, IsFault}
+use Rattle.hy_mwire.specs.Front.{partial, message, fault, message_or, kind_or, judged, front_at, AreBytes, IsPartial, HasBody, IsUnreadable, IsFault}
 use Rattle.hy_mwire.proofs.Fields.{IsBytes-take, some_is}
 use Rattle.hy_mwire.proofs.KindBytes.{kind_of-kind_byte, kind_byte-kind_of, kind_of-none, kind_of-strange}
 use Rattle.hy_mwire.proofs.Lengths.{body_size}
@@ -35,7 +35,7 @@ AreBytes-is bytes is = All-from_get_or (λ byte. byte < 256) bytes 0 (λ i insid
 -- ---- the four cases
 
 -- the bytes are too few for a length, the length is too great, the bytes are too few for the length, or there is a whole frame
-data Case (place : ℕ) (bytes : List ℕ) : Type 0 where
+pub data Case (place : ℕ) (bytes : List ℕ) : Type 0 where
   short : length bytes < 4 → front_at place bytes ≡ partial → Case place bytes
   long : 4 ≤ length bytes → MAX_FRAME < big_number 4 bytes → front_at place bytes ≡ fault (TooLong (big_number 4 bytes)) → Case place bytes
   waits : big_number 4 bytes ≤ MAX_FRAME → length bytes < big_number 4 bytes + 4 → front_at place bytes ≡ partial → Case place bytes
@@ -65,7 +65,7 @@ whole_front place bytes enough small there =
     let third = le-ltb (length (drop 4 bytes)) (big_number 4 bytes) there in
     rw (first, second, third) refl
 
-case_of : (place : ℕ) (bytes : List ℕ) → Case place bytes
+pub case_of : (place : ℕ) (bytes : List ℕ) → Case place bytes
 case_of place bytes =
     elim (cases_lt (length bytes) 4) [
       | inl few ↦ short few (short_front place bytes few)
@@ -126,7 +126,7 @@ front-frame place said rest is =
 
 -- ---- what a body says
 
-message_is : (place size n : ℕ) (o : Option Message) (said : Message) → message_or place size o ≡ message said n → (o ≡ Some said) × (n ≡ size)
+pub message_is : (place size n : ℕ) (o : Option Message) (said : Message) → message_or place size o ≡ message said n → (o ≡ Some said) × (n ≡ size)
 message_is place size n (Some other) said e = (cc, cc)
 message_is place size n None said e = absurd cc
 

@@ -1,15 +1,13 @@
 -- How many bytes a message has.
-use Rattle.std.proofs.Common.{◌≡◌, ℕ, zero, suc, ◌+◌, ◌*◌, ◌<◌, ◌≤◌, Bool, true, List, [], ◌∷◌, ◌++◌, length, All, Option, Some, None, refl, sym, ap, ◌∙◌, arith}
-use Rattle.std.specs.Prelude.{IsTrue, ◌&&◌, nat_le}
+use Rattle.std.proofs.Common.{◌≡◌, ℕ, ◌+◌, ◌-◌, ◌*◌, ◌≤◌, List, [], ◌∷◌, ◌++◌, length, drop, All, Option, Some, None, refl, ap, ◌∙◌, arith}
+use Rattle.std.specs.Prelude.{IsTrue}
 use Rattle.std.specs.List.{concat, flat_map}
-use Rattle.std.proofs.lemmas.Bool.{eqb-true}
 use Rattle.std.proofs.lemmas.Bool.Decides.{nat_tests}
-use Rattle.std.proofs.lemmas.List.{length-append}
+use Rattle.std.proofs.lemmas.List.{length-append, drop_at}
 use Rattle.std.proofs.lemmas.List.Elements.{All-head, All-tail}
 use Rattle.byteorder.specs.Endian.{big_bytes}
 use Rattle.byteorder.specs.Numbers.{length-bytes_high_first}
-use Rattle.hy_base.specs.declared.limits.TheConstants.{MAX_F, MAX_K}
-use Rattle.hy_base.specs.Shape.{cloud_count}
+use Rattle.hy_base.specs.declared.limits.TheConstants.{MAX_K}
 use Rattle.hy_record.specs.declared.kind.Kind.{Kind}
 use Rattle.hy_record.specs.declared.kind.Kind.TheVariants.{Tomb, Whole, Coded}
 use Rattle.hy_record.specs.declared.message.MetaAsk.{MetaAsk}
@@ -94,6 +92,7 @@ ask_size (asks.Update client op key rec) is = omega (arith, joined_size (operati
 ask_size (asks.Watch client op key stamp) is = omega (arith, joined_size (operation_bytes client op key) (stamp_bytes stamp) 73 8 (operation_size client op key is.0) (omega (arith, stamp_size stamp)))
 ask_size (asks.Olds client op key) is = omega (arith, operation_size client op key is)
 ask_size (asks.Forget client op key stamps) is = omega (arith, joined_size (operation_bytes client op key) (stamps_bytes stamps) 73 2050 (operation_size client op key is.0) (list_size stamps is.1))
+ask_size (asks.Swap client op key expected rec) is = absurd is
 
 say_size : (say : MetaSay) → IsSay say → length (say_fields say) ≤ 2123
 say_size (says.Has client op key rec) is = omega (arith, joined_size (operation_bytes client op key) (found_bytes rec) 73 339 (operation_size client op key is.0) (found_size rec is.1))
@@ -102,6 +101,8 @@ say_size (says.Kept client op key stamp) is = omega (arith, joined_size (operati
 say_size (says.Fired client op key stamp) is = omega (arith, joined_size (operation_bytes client op key) (stamp_bytes stamp) 73 8 (operation_size client op key is.0) (omega (arith, stamp_size stamp)))
 say_size (says.OldList client op key stamps) is = omega (arith, joined_size (operation_bytes client op key) (stamps_bytes stamps) 73 2050 (operation_size client op key is.0) (list_size stamps is.1))
 say_size (says.Forgot client op key) is = omega (arith, operation_size client op key is)
+say_size (says.Swapped client op key stamp) is = absurd is
+say_size (says.Changed client op key stamp) is = absurd is
 
 fields_size : (said : Message) → IsMessage said → length (message_fields said) ≤ 2123
 fields_size Join is = omega arith
@@ -113,3 +114,15 @@ fields_size (Say say) is = say_size say is
 -- the body of a message fits a frame
 pub body_size : (said : Message) → IsMessage said → length (body_of said) ≤ MAX_FRAME
 body_size said is = omega (arith, fields_size said is)
+
+-- a body behind four bytes that were left for its length
+pub room_length : (left out body : List ℕ) → length left ≡ 4 → out ≡ left ++ body → length out ≡ length body + 4
+room_length left out body four parts = ap (length {A = ℕ}) parts ∙ length-append left body ∙ omega (arith, four)
+
+-- the frame, once the length is written over them
+pub lengthened : (left out body : List ℕ) → length left ≡ 4 → out ≡ left ++ body
+    → big_bytes 4 (length out - 4) ++ drop 4 out ≡ big_bytes 4 (length body) ++ body
+lengthened left out body four parts =
+    let number : length out - 4 ≡ length body = omega (arith, room_length left out body four parts) in
+    let behind : drop 4 out ≡ body = ap (drop 4) parts ∙ drop_at left body 4 four in
+    ap (λ (n : ℕ). big_bytes 4 n ++ drop 4 out) number ∙ ap (λ (t : List ℕ). big_bytes 4 (length body) ++ t) behind

@@ -4,5 +4,6 @@ pub mod KindBytes
 pub mod Lengths
 pub mod Bodies
 pub mod Fronts
+pub mod Framed
 pub mod Streams
 pub mod Readies

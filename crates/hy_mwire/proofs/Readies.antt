@@ -1,7 +1,7 @@
 -- A message that is ready stands in front, and still does when a piece has come.
 use Rattle.std.proofs.Common.{◌≡◌, ℕ, ◌≤◌, List, ◌++◌, length, Option, Some, None, sym, ap, subst, ◌∙◌}
 use Rattle.hy_mwire.specs.declared.reader.Ready.{Ready}
-use Rattle.hy_mwire.specs.Front.{Front, front_at, message}
+use Rattle.hy_mwire.specs.Front.{front_at, message}
 use Rattle.hy_mwire.specs.HeldStream.{IsReady}
 use Rattle.hy_mwire.proofs.Fronts.{message_fits, message-append}
 

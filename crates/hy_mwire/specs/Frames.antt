@@ -1,5 +1,5 @@
 -- The one frame of a message: a length, a byte that names its kind, and its parts. Numbers stand with their highest byte first.
-use Rattle.std.specs.Prelude.{ℕ, ◌+◌, ◌-◌, ◌^◌, min, List, [], ◌∷◌, ◌++◌, length, Option, Some, None}
+use Rattle.std.specs.Prelude.{ℕ, ◌-◌, ◌^◌, min, List, [], ◌∷◌, ◌++◌, length, Option, Some, None}
 use Rattle.std.specs.List.{flat_map}
 use Rattle.byteorder.specs.Endian.{big_bytes}
 use Rattle.hy_record.specs.declared.message.MetaAsk.{MetaAsk}
@@ -32,12 +32,14 @@ abbrev pub found_bytes : Option RecordValue → List ℕ
 found_bytes None = 0 ∷ []
 found_bytes (Some rec) = 1 ∷ record_bytes rec
 
+-- the kind of what is asked; a swap has no frame, and this stands for nothing there
 abbrev pub ask_kind : MetaAsk → AskKind
 ask_kind (asks.Read client op key) = ask_kinds.Read
 ask_kind (asks.Update client op key rec) = ask_kinds.Update
 ask_kind (asks.Watch client op key stamp) = ask_kinds.Watch
 ask_kind (asks.Olds client op key) = ask_kinds.Olds
 ask_kind (asks.Forget client op key stamps) = ask_kinds.Forget
+ask_kind (asks.Swap client op key expected rec) = ask_kinds.Update
 
 abbrev pub ask_fields : MetaAsk → List ℕ
 ask_fields (asks.Read client op key) = operation_bytes client op key
@@ -45,7 +47,9 @@ ask_fields (asks.Update client op key rec) = operation_bytes client op key ++ re
 ask_fields (asks.Watch client op key stamp) = operation_bytes client op key ++ stamp_bytes stamp
 ask_fields (asks.Olds client op key) = operation_bytes client op key
 ask_fields (asks.Forget client op key stamps) = operation_bytes client op key ++ stamps_bytes stamps
+ask_fields (asks.Swap client op key expected rec) = []
 
+-- the kind of what is answered; an answer to a swap has no frame
 abbrev pub say_kind : MetaSay → SayKind
 say_kind (says.Has client op key rec) = say_kinds.Has
 say_kind (says.Applied client op key stamp) = say_kinds.Applied
@@ -53,6 +57,8 @@ say_kind (says.Kept client op key stamp) = say_kinds.Kept
 say_kind (says.Fired client op key stamp) = say_kinds.Fired
 say_kind (says.OldList client op key stamps) = say_kinds.OldList
 say_kind (says.Forgot client op key) = say_kinds.Forgot
+say_kind (says.Swapped client op key stamp) = say_kinds.Applied
+say_kind (says.Changed client op key stamp) = say_kinds.Kept
 
 abbrev pub say_fields : MetaSay → List ℕ
 say_fields (says.Has client op key rec) = operation_bytes client op key ++ found_bytes rec
@@ -61,6 +67,8 @@ say_fields (says.Kept client op key stamp) = operation_bytes client op key ++ st
 say_fields (says.Fired client op key stamp) = operation_bytes client op key ++ stamp_bytes stamp
 say_fields (says.OldList client op key stamps) = operation_bytes client op key ++ stamps_bytes stamps
 say_fields (says.Forgot client op key) = operation_bytes client op key
+say_fields (says.Swapped client op key stamp) = []
+say_fields (says.Changed client op key stamp) = []
 
 -- the kind of the message
 abbrev pub message_kind : Message → MessageKind

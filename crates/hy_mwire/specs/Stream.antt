@@ -1,8 +1,7 @@
 -- What a reader of a stream stands for, and what its calls do.
-use Rattle.std.specs.Prelude.{◌≡◌, ◌≢◌, ℕ, ◌+◌, ◌-◌, ◌^◌, min, List, [], ◌∷◌, ◌++◌, drop, All, Option, Some, None, Result, Ok, Err}
+use Rattle.std.specs.Prelude.{◌≡◌, ℕ, ◌+◌, ◌-◌, ◌^◌, min, List, [], ◌∷◌, ◌++◌, drop, All, Option, Some, None, Result, Ok, Err}
 use Rattle.hy_mwire.specs.declared.message.Message.{Message}
 use Rattle.hy_mwire.specs.declared.fault.FrameFault.{FrameFault}
-use Rattle.hy_mwire.specs.declared.fault.FrameFault.TheVariants.{NoMemory}
 use Rattle.hy_mwire.specs.Message.{IsMessage}
 use Rattle.hy_mwire.specs.Frames.{frames_of, place_behind}
 use Rattle.hy_mwire.specs.Front.{Front, partial, message, fault, front_at, AreBytes}

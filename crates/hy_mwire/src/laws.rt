@@ -1,9 +1,9 @@
 //! Laws of frames and of streams of them, above the definitions: each is a function without a body that ensures it.
 
-ghost use Rattle.std.specs.Prelude.{◌≡◌, ◌≤◌, ◌↔◌, ◌++◌, ℕ, List, length, take, drop};
+ghost use Rattle.std.specs.Prelude.{◌≡◌, ◌≤◌, ◌↔◌, ◌++◌, ℕ, List, Ok, Some, length, take, drop};
 ghost use Rattle.hy_mwire.specs.declared.message.Message.{Message};
 ghost use Rattle.hy_mwire.specs.declared.fault.FrameFault.{FrameFault};
-ghost use Rattle.hy_mwire.specs.Message.{IsMessage};
+ghost use Rattle.hy_mwire.specs.Message.{IsFramed, IsMessage};
 ghost use Rattle.hy_mwire.specs.Frames.{frame_of};
 ghost use Rattle.hy_mwire.specs.Front.{partial, message, fault, front_at, AreBytes, IsPartial, IsFault};
 ghost use Rattle.hy_mwire.specs.Stream.{Unread, next_answer, StandsFor};
@@ -42,4 +42,10 @@ pub fn cuts_do_not_matter()
     ensures messages { (taken : List ℕ) (a b : List Message) (x y : Unread) → StandsFor taken a x → StandsFor taken b y → length a ≤ length b → a ≡ take (length a) b }
     // After the same messages they answer the same.
     ensures answers { (taken : List ℕ) (said : List Message) (x y : Unread) → StandsFor taken said x → StandsFor taken said y → next_answer x ≡ next_answer y }
+{}
+
+/// No swap is read, and no answer to one.
+pub fn no_swap_is_read()
+    ensures { (unread : Unread) (said : Message) → next_answer unread ≡ Ok (Some said)
+        → IsFramed said }
 {}

@@ -1,3 +1,6 @@
+ghost use Rattle.std.specs.Prelude.{IsTrue};
+ghost use Rattle.hy_mwire.specs.Message.{IsSendable, IsFramedAsk, IsFramedSay};
+
 use super::*;
 use hy_base::Blob;
 use hy_record::{Key, MetaAsk, MetaSay, Record, Stamp, Stamps};
@@ -136,10 +139,52 @@ fn says(rt: &impl Abort, alloc: Global) -> Result<Vec<Message>, Fail> {
     Ok(says)
 }
 
-fn frame_of(rt: &impl Abort, alloc: Global, message: &Message) -> Result<Blob, Fail> {
-    if let Message::Joined { client } = message {
-        assert!(rt; *client > 0);
+/// Whether a frame can carry the request.
+fn is_framed_ask(ask: &MetaAsk) -> bool
+    ensures { IsTrue result → IsFramedAsk ask.now }
+{
+    match ask {
+        MetaAsk::Read { .. } => true,
+        MetaAsk::Update { .. } => true,
+        MetaAsk::Watch { .. } => true,
+        MetaAsk::Olds { .. } => true,
+        MetaAsk::Forget { .. } => true,
+        MetaAsk::Swap { .. } => false,
     }
+}
+
+/// Whether a frame can carry the answer.
+fn is_framed_say(say: &MetaSay) -> bool
+    ensures { IsTrue result → IsFramedSay say.now }
+{
+    match say {
+        MetaSay::Has { .. } => true,
+        MetaSay::Applied { .. } => true,
+        MetaSay::Kept { .. } => true,
+        MetaSay::Fired { .. } => true,
+        MetaSay::OldList { .. } => true,
+        MetaSay::Forgot { .. } => true,
+        MetaSay::Swapped { .. } => false,
+        MetaSay::Changed { .. } => false,
+    }
+}
+
+/// Whether the message can be sent.
+fn is_sendable(message: &Message) -> bool
+    ensures { IsTrue result → IsSendable message.now }
+{
+    match message {
+        Message::Join => true,
+        Message::Joined { client } => *client > 0,
+        Message::Full => true,
+        Message::Ask(ask) => is_framed_ask(ask),
+        Message::Say(say) => is_framed_say(say),
+    }
+}
+
+fn frame_of(rt: &impl Abort, alloc: Global, message: &Message) -> Result<Blob, Fail> {
+    let sendable = is_sendable(message);
+    assert!(rt; sendable);
     Ok(encode(alloc, message).ok().ok_or("a frame")?)
 }
 

@@ -1,14 +1,15 @@
 //! Writing a message as a frame.
 
-ghost use Rattle.std.specs.Prelude.{◌≡◌, ◌++◌, ◌∷◌, [], length, IfOk, OnOk};
+ghost use Rattle.std.specs.Prelude.{◌≡◌, ◌≤◌, ◌+◌, ◌-◌, ◌++◌, ◌∷◌, [], length, drop, IfOk, OnOk};
 ghost use Rattle.byteorder.specs.Endian.{big_bytes};
 ghost use Rattle.hy_record.specs.Stamp.{IsStamp};
 ghost use Rattle.hy_record.specs.Record.{IsRecord};
 ghost use Rattle.hy_record.specs.Spelling.{stamp_bytes, record_bytes};
-ghost use Rattle.hy_mwire.specs.Message.{IsOperation, AreStamps, IsRecordIfAny, IsAsk, IsSay, IsSendable, IsMessage};
+ghost use Rattle.hy_mwire.specs.Message.{IsOperation, AreStamps, IsRecordIfAny, IsAsk, IsSay, IsFramedAsk, IsFramedSay, IsSendable, IsMessage};
 ghost use Rattle.hy_mwire.specs.Kind.{kind_byte};
 ghost use Rattle.hy_mwire.specs.Frames.{operation_bytes, stamps_bytes, found_bytes, ask_fields, say_fields, message_fields, message_kind, ask_kind, say_kind, body_of, frame_of};
 
+use crate::front::MAX_FRAME;
 use crate::kind::{AskKind, MessageKind, SayKind};
 use crate::message::Message;
 use byteorder::{BigEndian, ByteOrder};
@@ -24,9 +25,30 @@ pub fn encode(alloc: Global, message: &Message) -> Result<Blob, NoMemory>
 {
     let mut frame = vec![in alloc; 0; 4]?;
     push_body(alloc, &mut frame, message)?;
-    let size = frame.len() - 4;
-    BigEndian::write_u32(&mut frame, size as u32);
+    write_length(&mut frame);
     Ok(Blob::of(frame))
+}
+
+/// The frame of what is asked.
+pub fn encode_ask(alloc: Global, ask: &MetaAsk) -> Result<Blob, NoMemory>
+    requires { IsFramedAsk ask.now }
+    ensures frame { IfOk result (λ frame. frame ≡ frame_of (Message.Ask ask.now)) }
+    ensures known { OnOk result (IsAsk ask.now) }
+{
+    let mut frame = vec![in alloc; 0; 4]?;
+    push_ask(alloc, &mut frame, ask)?;
+    write_length(&mut frame);
+    Ok(Blob::of(frame))
+}
+
+/// Writes the length of the body over the four bytes that were left before it.
+fn write_length(frame: &mut Vec<u8>)
+    requires room { 4 ≤ length frame.old.items }
+    requires few { length frame.old.items ≤ MAX_FRAME + 4 }
+    ensures { frame.new.items ≡ big_bytes 4 (length frame.old.items - 4) ++ drop 4 frame.old.items }
+{
+    let size = frame.len() - 4;
+    BigEndian::write_u32(frame, size as u32);
 }
 
 /// Writes the kind and the parts of the message.
@@ -49,6 +71,7 @@ fn push_body(alloc: Global, out: &mut Vec<u8>, message: &Message) -> Result<(), 
 
 /// Writes what is asked.
 fn push_ask(alloc: Global, out: &mut Vec<u8>, ask: &MetaAsk) -> Result<(), NoMemory>
+    requires { IsFramedAsk ask.now }
     ensures bytes { OnOk result (out.new.items ≡ out.old.items ++ kind_byte (MessageKind.Ask (ask_kind ask.now)) ∷ ask_fields ask.now) }
     ensures known { OnOk result (IsAsk ask.now) }
 {
@@ -86,11 +109,13 @@ fn push_ask(alloc: Global, out: &mut Vec<u8>, ask: &MetaAsk) -> Result<(), NoMem
             push_operation(out, MessageKind::Ask(AskKind::Forget), *client, *op, key)?;
             push_stamps(out, stamps)
         }
+        MetaAsk::Swap { .. } => unreachable!(),
     }
 }
 
 /// Writes what is answered.
 fn push_say(alloc: Global, out: &mut Vec<u8>, say: &MetaSay) -> Result<(), NoMemory>
+    requires { IsFramedSay say.now }
     ensures bytes { OnOk result (out.new.items ≡ out.old.items ++ kind_byte (MessageKind.Say (say_kind say.now)) ∷ say_fields say.now) }
     ensures known { OnOk result (IsSay say.now) }
 {
@@ -143,6 +168,7 @@ fn push_say(alloc: Global, out: &mut Vec<u8>, say: &MetaSay) -> Result<(), NoMem
         MetaSay::Forgot { client, op, key } => {
             push_operation(out, MessageKind::Say(SayKind::Forgot), *client, *op, key)
         }
+        MetaSay::Swapped { .. } | MetaSay::Changed { .. } => unreachable!(),
     }
 }
 

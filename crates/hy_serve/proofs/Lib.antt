@@ -8,6 +8,7 @@ pub mod Reacting
 pub mod Serving
 pub mod MetaLines
 pub mod MetaLetters
+pub mod MetaFramed
 pub mod MetaStands
 pub mod MetaWeights
 pub mod MetaSends

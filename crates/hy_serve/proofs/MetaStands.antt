@@ -1,5 +1,5 @@
 -- Lemmas on what an arrival and a message make of the metadata server.
-use Rattle.std.proofs.Common.{◌≡◌, ◌==◌, ◌+◌, ℕ, true, List, [], ◌∷◌, Option, Some, None, Result, Ok, Err, refl, sym, ap, subst, ◌∙◌, cond, eq-eqb}
+use Rattle.std.proofs.Common.{◌≡◌, ◌==◌, ◌+◌, ℕ, true, List, [], ◌∷◌, All, Option, Some, None, Result, Ok, Err, refl, sym, ap, subst, ◌∙◌, cond, eq-eqb}
 use Rattle.std.proofs.lemmas.Bool.{cases_Bool, cond-true, cond-false}
 use Rattle.std.proofs.Math.Logic.{⊎_elim}
 use Rattle.std.specs.Prelude.{nat_lt, if◌then◌else◌}
@@ -12,6 +12,7 @@ use Rattle.hy_base.specs.Moves.{Request, to_send}
 use Rattle.hy_record.specs.declared.message.MetaAsk.{MetaAsk}
 use Rattle.hy_record.specs.declared.message.MetaSay.{MetaSay}
 use Rattle.hy_mwire.specs.declared.message.Message.TheVariants.{Joined, Full}
+use Rattle.hy_mwire.specs.Message.{IsFramedAsk, IsFramedSay}
 use Rattle.hy_mwire.specs.Frames.{frame_of}
 use Rattle.hy_mwire.specs.Stream.{after_next}
 use Rattle.hy_meta.specs.declared.meta.SessionsFull.{SessionsFull}
@@ -29,6 +30,7 @@ use Rattle.hy_serve.specs.MetaRole.{Line, unopened, talking, over, opened, close
 use Rattle.hy_serve.specs.MetaStanding.{line_of, home_of, StandsFor, SetsLine, requests_in, SendsAll, Turns, Answers, ReadsNext, TakesIn}
 use Rattle.hy_serve.proofs.Tables.{put-at}
 use Rattle.hy_serve.proofs.MetaLetters.{letters-same}
+use Rattle.hy_serve.proofs.MetaFramed.{answers-framed}
 
 -- ---- one connection
 
@@ -136,12 +138,15 @@ joins-none old mid new conn full turn id given same lines homes sets sends state
 pub serves-one : (old new : MetaServer) (ask : MetaAsk) (turn : Turn) (says : List MetaSay) (requests : List Request) → new.lines ≡ old.lines → new.homes ≡ old.homes
     → new.service.given ≡ old.service.given → ((asks : List MetaAsk) → Serves old.service asks → Serves new.service (ask ∷ asks))
     → ((asks : List MetaAsk) → Serves old.service asks → says ≡ service_answers asks ask)
-    → requests ≡ letters_for (home_of new) says → SendsAll turn requests → (conn : ℕ) → Answers old new conn (Asks ask) turn
+    → IsFramedAsk ask → (All IsFramedSay says → requests ≡ letters_for (home_of new) says)
+    → SendsAll turn requests → (conn : ℕ) → Answers old new conn (Asks ask) turn
 unfolding line_of home_of
-serves-one old new ask turn says requests lines homes given serves answers are sends conn state reading stands talks =
+serves-one old new ask turn says requests lines homes given serves answers framed are sends conn state reading stands talks =
+    let said = answers state.asks stands.serves in
+    let each : All IsFramedSay says = subst (λ (s : List MetaSay). All IsFramedSay s) (sym said) (answers-framed state.asks ask framed) in
     let home : (c : ℕ) → home_of new c ≡ state.homes c = λ c. ap (λ (table : BTreeMap ℕ ℕ). tree.get nat_cmp table c) homes ∙ stands.homes c in
     let due : requests_in conn turn ≡ letters_for state.homes (service_answers state.asks ask) =
-    sends.due conn ∙ are ∙ letters-same (home_of new) state.homes says home ∙ ap (λ (s : List MetaSay). letters_for state.homes s) (answers state.asks stands.serves) in
+    sends.due conn ∙ are each ∙ letters-same (home_of new) state.homes says home ∙ ap (λ (s : List MetaSay). letters_for state.homes s) said in
     record {
       stands = record {
         lines = λ c. ap (λ table. line_of (record { lines = table; homes = new.homes; service = new.service }) c) lines ∙ stands.lines c;

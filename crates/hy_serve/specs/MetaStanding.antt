@@ -1,9 +1,10 @@
 -- What the metadata server keeps of the state that it is in.
-use Rattle.std.specs.Prelude.{◌≡◌, ◌==◌, ◌<◌, ◌+◌, ℕ, true, List, [], ◌∷◌, length, map, Option, Some, None, if◌then◌else◌}
+use Rattle.std.specs.Prelude.{◌≡◌, ◌==◌, ◌<◌, ◌+◌, ℕ, true, List, [], ◌∷◌, length, map, Option, Some, None, ⊤, if◌then◌else◌}
 use Rattle.std.specs.Ordering.{nat_cmp}
 use Rattle.std.specs.BTreeMap as tree
 use Rattle.hy_base.specs.declared.arrival.Arrived.{Arrived}
 use Rattle.hy_base.specs.Moves.{Request, to_send, to_close}
+use Rattle.hy_mwire.specs.Message.{IsFramedAsk}
 use Rattle.hy_meta.specs.Held.{Serves}
 use Rattle.hy_serve.specs.declared.letter.Letter.{Letter}
 use Rattle.hy_serve.specs.declared.letter.Turn.{Turn}
@@ -11,7 +12,7 @@ use Rattle.hy_serve.specs.declared.letter.Turn.TheVariants.{Rests, Closes, Sends
 use Rattle.hy_serve.specs.declared.meta_server.MetaServer.{MetaServer}
 use Rattle.hy_serve.specs.MetaLines.{seen}
 use Rattle.hy_serve.specs.declared.meta_lines.Step.{Step}
-use Rattle.hy_serve.specs.declared.meta_lines.Step.TheVariants.{Joins}
+use Rattle.hy_serve.specs.declared.meta_lines.Step.TheVariants.{Waits, Ends, Joins, Asks}
 use Rattle.hy_serve.specs.MetaRole.{Line, unopened, talking, over, is_talking, MetaState, deliverable, meta_took, stepped, meta_read}
 
 -- the connection of this number
@@ -54,6 +55,13 @@ abbrev pub reading_behind : ℕ → Turn → Option ℕ
 reading_behind conn Rests = None
 reading_behind conn Closes = Some conn
 reading_behind conn (Sends letters) = Some conn
+
+-- a frame carries what is asked
+abbrev pub IsFramedStep : Step → Type 0
+IsFramedStep Waits = ⊤
+IsFramedStep Ends = ⊤
+IsFramedStep Joins = ⊤
+IsFramedStep (Asks ask) = IsFramedAsk ask
 
 -- these are due in the turn, whichever connection was read
 pub record SendsAll (turn : Turn) (requests : List Request) : Type 0 where

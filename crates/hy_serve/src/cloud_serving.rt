@@ -1,6 +1,6 @@
 //! Serving a cloud over a net.
 
-ghost use Rattle.std.specs.Prelude.{IsErrOf};
+ghost use Rattle.std.specs.Prelude.{◌≡◌, IsErrOf};
 ghost use Rattle.hy_base.specs.Faults.{Rose};
 ghost use Rattle.hy_base.specs.Net.{Adds};
 ghost use Rattle.hy_serve.specs.CloudRole.{ServesCloud};
@@ -26,6 +26,8 @@ pub fn serve_cloud<N: Net>(
     ensures plays { Adds N.told N.tells net.old net.new (ServesCloud port arrivals result) }
     ensures fault { IsErrOf result faults.NetFault
         → Rose (N.taking_faults net.old) (N.taking_faults net.new) }
+    ensures kept { ¬ IsErrOf result faults.NetFault
+        → N.taking_faults net.new ≡ N.taking_faults net.old }
 {
     let mut buf = buffer(alloc)?;
     serve_over(net, alloc, port, arrivals, &mut buf)
@@ -42,6 +44,8 @@ fn serve_over<N: Net>(
     ensures plays { Adds N.told N.tells net.old net.new (ServesCloud port arrivals result) }
     ensures fault { IsErrOf result faults.NetFault
         → Rose (N.taking_faults net.old) (N.taking_faults net.new) }
+    ensures kept { ¬ IsErrOf result faults.NetFault
+        → N.taking_faults net.new ≡ N.taking_faults net.old }
 {
     let mut server = CloudServer::new(alloc)?;
     net.listen(port)?;

@@ -1,7 +1,8 @@
 //! The connections of the metadata server, and the messages that come on them.
 
-ghost use Rattle.std.specs.Prelude.{◌≡◌, ◌≢◌, Err, Some, IfOk, OnOk};
+ghost use Rattle.std.specs.Prelude.{◌≡◌, ◌≢◌, true, false, Err, Some, IfOk, OnOk};
 ghost use Rattle.hy_mwire.specs.declared.fault.FrameFault.TheVariants as faults;
+ghost use Rattle.hy_mwire.specs.Message.{IsFramedSay};
 ghost use Rattle.hy_mwire.specs.Stream.{next_answer, after_next};
 ghost use Rattle.hy_meta.specs.Run.{asker_of, addressee_of};
 ghost use Rattle.hy_serve.specs.MetaRole.{fed, in_session, step_of, step_by, step_of_client, next_step, next_line};
@@ -134,7 +135,8 @@ fn asker(ask: &MetaAsk) -> u32
         | MetaAsk::Update { client, .. }
         | MetaAsk::Watch { client, .. }
         | MetaAsk::Olds { client, .. }
-        | MetaAsk::Forget { client, .. } => *client,
+        | MetaAsk::Forget { client, .. }
+        | MetaAsk::Swap { client, .. } => *client,
     }
 }
 
@@ -148,6 +150,24 @@ pub(crate) fn addressee(say: &MetaSay) -> u32
         | MetaSay::Kept { client, .. }
         | MetaSay::Fired { client, .. }
         | MetaSay::OldList { client, .. }
-        | MetaSay::Forgot { client, .. } => *client,
+        | MetaSay::Forgot { client, .. }
+        | MetaSay::Swapped { client, .. }
+        | MetaSay::Changed { client, .. } => *client,
+    }
+}
+
+/// Whether a frame carries the message: an answer to a swap has none.
+pub(crate) fn is_framed(say: &MetaSay) -> bool
+    ensures carried { result ≡ true → IsFramedSay say.now }
+    ensures other { result ≡ false → IsFramedSay say.now → ⊥ }
+{
+    match say {
+        MetaSay::Has { .. }
+        | MetaSay::Applied { .. }
+        | MetaSay::Kept { .. }
+        | MetaSay::Fired { .. }
+        | MetaSay::OldList { .. }
+        | MetaSay::Forgot { .. } => true,
+        MetaSay::Swapped { .. } | MetaSay::Changed { .. } => false,
     }
 }

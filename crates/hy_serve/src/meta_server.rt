@@ -1,17 +1,17 @@
 //! The metadata server: what it keeps of its connections and sessions, and how it answers.
 
-ghost use Rattle.std.specs.Prelude.{◌≡◌, ◌∷◌, ◌++◌, [], ℕ, length, IfOk, OnOk};
+ghost use Rattle.std.specs.Prelude.{◌≡◌, ◌∷◌, ◌++◌, [], ℕ, length, All, IfOk, OnOk};
 ghost use Rattle.hy_base.specs.Moves.{came, to_send, InBuffer};
 ghost use Rattle.hy_mwire.specs.Frames.{frame_of};
-ghost use Rattle.hy_mwire.specs.Message.{IsSendable};
+ghost use Rattle.hy_mwire.specs.Message.{IsFramedAsk, IsFramedSay, IsSendable};
 ghost use Rattle.hy_meta.specs.Run.{addressee_of};
 ghost use Rattle.hy_serve.specs.MetaRole.{opened, closed, fed, in_session, is_talking, next_step, next_line, meta_begun, letter_to, letters_for};
-ghost use Rattle.hy_serve.specs.MetaStanding.{line_of, home_of, StandsFor, SetsLine, TakesIn, Answers, ReadsNext, SendsAll, weight_at, Falls, requests_for};
+ghost use Rattle.hy_serve.specs.MetaStanding.{line_of, home_of, StandsFor, SetsLine, TakesIn, Answers, ReadsNext, SendsAll, weight_at, Falls, requests_for, IsFramedStep};
 ghost use Rattle.hy_serve.specs.declared.letter.Turn.TheVariants as turns;
 ghost use Rattle.hy_serve.specs.declared.meta_lines.Step.TheVariants as steps;
 
 use crate::letter::{Letter, Turn};
-use crate::meta_lines::{MetaLine, Session, Step, addressee, feed, read, set_session};
+use crate::meta_lines::{MetaLine, Session, Step, addressee, feed, is_framed, read, set_session};
 use hy_base::{Arrival, NoMemory};
 use hy_meta::{Meta, Service, SessionsFull};
 use hy_mwire::{Message, Reader, encode};
@@ -144,6 +144,7 @@ impl MetaServer {
 
     /// What is to be done at what came next on the connection.
     fn answer(&mut self, alloc: Global, conn: u32, step: Step) -> Result<Turn, NoMemory>
+        requires { IsFramedStep step }
         ensures answers { IfOk result (Answers self.old self.new conn step) }
         ensures rests { IfOk result (λ turn. step ≡ steps.Waits → turn ≡ turns.Rests) }
         ensures weights { OnOk result ((c : ℕ) → weight_at self.new c ≡ weight_at self.old c) }
@@ -176,6 +177,7 @@ impl MetaServer {
 
     /// Serves a request. Its answers go to their clients.
     fn serve(&mut self, alloc: Global, ask: MetaAsk) -> Result<Turn, NoMemory>
+        requires { IsFramedAsk ask }
         ensures answers { IfOk result (λ turn. (conn : ℕ)
             → Answers self.old self.new conn (steps.Asks ask) turn) }
         ensures lines { self.new.lines ≡ self.old.lines }
@@ -187,8 +189,8 @@ impl MetaServer {
 
     /// The messages, each to the connection on which its client joined.
     fn letters(&self, alloc: Global, says: Vec<MetaSay>) -> Result<Vec<Letter>, NoMemory>
-        ensures { IfOk result (λ letters.
-            requests_for letters.items ≡ letters_for (home_of self.now) says.items) }
+        ensures { IfOk result (λ letters. All IsFramedSay says.items
+            → requests_for letters.items ≡ letters_for (home_of self.now) says.items) }
     {
         let mut letters = Vec::new(alloc);
         for say in says {
@@ -197,8 +199,27 @@ impl MetaServer {
         Ok(letters)
     }
 
-    /// One more message, to the connection on which its client joined.
+    /// One more message, if a frame carries it.
     fn post(&self, alloc: Global, letters: &mut Vec<Letter>, say: MetaSay) -> Result<(), NoMemory>
+        ensures { OnOk result (IsFramedSay say
+            → requests_for letters.new.items ≡ requests_for letters.old.items
+            ++ letter_to (home_of self.now (addressee_of say).client) say) }
+    {
+        if !is_framed(&say) {
+            return Ok(());
+        }
+        self.post_framed(alloc, letters, say)?;
+        Ok(())
+    }
+
+    /// One more message, to the connection on which its client joined.
+    fn post_framed(
+        &self,
+        alloc: Global,
+        letters: &mut Vec<Letter>,
+        say: MetaSay,
+    ) -> Result<(), NoMemory>
+        requires { IsFramedSay say }
         ensures { OnOk result (requests_for letters.new.items ≡ requests_for letters.old.items
             ++ letter_to (home_of self.now (addressee_of say).client) say) }
     {

@@ -29,6 +29,8 @@ pub fn serve_meta<N: Net>(
     ensures plays { Adds N.told N.tells net.old net.new (ServesMeta port arrivals result) }
     ensures fault { IsErrOf result faults.NetFault
         → Rose (N.taking_faults net.old) (N.taking_faults net.new) }
+    ensures kept { ¬ IsErrOf result faults.NetFault
+        → N.taking_faults net.new ≡ N.taking_faults net.old }
 {
     let mut buf = buffer(alloc)?;
     serve_over(net, alloc, port, arrivals, &mut buf)
@@ -45,6 +47,8 @@ fn serve_over<N: Net>(
     ensures plays { Adds N.told N.tells net.old net.new (ServesMeta port arrivals result) }
     ensures fault { IsErrOf result faults.NetFault
         → Rose (N.taking_faults net.old) (N.taking_faults net.new) }
+    ensures kept { ¬ IsErrOf result faults.NetFault
+        → N.taking_faults net.new ≡ N.taking_faults net.old }
 {
     let mut server = MetaServer::new(alloc)?;
     net.listen(port)?;

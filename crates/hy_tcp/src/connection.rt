@@ -63,11 +63,21 @@ impl Connection {
 
     /// Keeps the bytes for later.
     fn keep(&mut self, bytes: &[u8]) -> io::Result<()> {
+        self.forget_sent();
         if self.unsent.len().saturating_add(bytes.len()) > MAX_UNSENT {
             return Err(io::Error::from(ErrorKind::Other));
         }
         self.unsent.extend_from_slice(bytes)?;
         Ok(())
+    }
+
+    /// Moves the bytes that wait to the front.
+    fn forget_sent(&mut self) {
+        let sent = self.sent.min(self.unsent.len());
+        let waiting = self.unsent.len() - sent;
+        self.unsent.copy_within(sent.., 0);
+        self.unsent.truncate(waiting);
+        self.sent = 0;
     }
 
     /// Whether bytes wait for the socket.

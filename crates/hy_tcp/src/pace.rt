@@ -2,15 +2,20 @@
 
 use std::rt::Clock;
 use std::thread;
-use std::time::Duration;
+use std::time::{Duration, Instant};
 
 /// So many microseconds without an arrival are a Quiet, which is a timeout to whoever waits.
 const QUIET: u32 = 4_000;
 
+/// So many microseconds after a Quiet the next comes at a pass that finds nothing, also where arrivals
+/// came meanwhile: so a peer that sends a byte now and then keeps nobody from a timeout.
+const STEADY: u128 = 50_000;
+
 /// The first rest after an arrival, in microseconds.
 const SHORTEST: u32 = 20;
 
-/// The longest rest, in microseconds.
+/// The longest rest soon after an arrival, in microseconds. Each Quiet in a row doubles it, up to the
+/// time of a Quiet.
 const LONGEST: u32 = 250;
 
 /// What a rest takes beyond its length, in microseconds.
@@ -25,7 +30,9 @@ const EAGER: usize = 512;
 pub(crate) struct Pace {
     eager: usize,
     rest: u32,
+    longest: u32,
     spent: u32,
+    since: Option<Instant>,
 }
 
 impl Pace {
@@ -34,7 +41,9 @@ impl Pace {
         Pace {
             eager: EAGER,
             rest: SHORTEST,
+            longest: LONGEST,
             spent: 0,
+            since: None,
         }
     }
 
@@ -42,6 +51,7 @@ impl Pace {
     pub(crate) fn hurry(&mut self) {
         self.eager = EAGER;
         self.rest = SHORTEST;
+        self.longest = LONGEST;
         self.spent = 0;
     }
 
@@ -52,21 +62,37 @@ impl Pace {
         eager
     }
 
-    /// Whether nothing came for so long that it is quiet; the next count begins then.
-    pub(crate) fn is_over(&mut self) -> bool {
-        let over = self.spent >= QUIET;
+    /// Whether nothing came for so long that it is quiet, or the last Quiet is so long ago. The next count
+    /// begins then.
+    pub(crate) fn is_over<C: Clock>(&mut self, clock: &C) -> bool {
+        let over = self.spent >= QUIET || self.is_due(clock);
         if over {
             self.spent = 0;
+            self.longest = self.longest.saturating_mul(2).min(QUIET);
+            self.since = Instant::now(clock).ok();
         }
         over
     }
 
-    /// Rests, makes the next rest longer, and tells how many microseconds this one took.
-    pub(crate) fn rest<C: Clock>(&mut self, clock: &C) -> u32 {
+    /// Whether the last Quiet, or the first look, is long ago.
+    fn is_due<C: Clock>(&mut self, clock: &C) -> bool {
+        match self.since {
+            None => {
+                self.since = Instant::now(clock).ok();
+                false
+            }
+            Some(since) => match since.elapsed(clock) {
+                Ok(passed) => passed.as_micros() >= STEADY,
+                Err(_) => false,
+            },
+        }
+    }
+
+    /// Rests, and makes the next rest longer.
+    pub(crate) fn rest<C: Clock>(&mut self, clock: &C) {
         thread::sleep(clock, Duration::from_micros(u64::from(self.rest)));
         let took = self.rest.saturating_add(WAKING);
         self.spent = self.spent.saturating_add(took);
-        self.rest = self.rest.saturating_mul(2).min(LONGEST);
-        took
+        self.rest = self.rest.saturating_mul(2).min(self.longest);
     }
 }

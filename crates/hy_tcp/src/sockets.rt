@@ -1,6 +1,6 @@
 //! The sockets of a net: a listener, the open connections, and those that are being closed.
 
-ghost use Rattle.std.specs.Prelude.{IfSome, IfOk, length};
+ghost use Rattle.std.specs.Prelude.{◌<◌, IfSome, IfOk, length};
 ghost use Rattle.hy_base.specs.Moves.{InBuffer};
 
 use crate::connection::Connection;
@@ -11,17 +11,17 @@ use std::io;
 use std::io::ErrorKind;
 use std::net::{Ipv4Addr, Net, SocketAddr, SocketAddrV4, TcpListener, TcpStream};
 use std::rt::Clock;
-use std::time::Duration;
+use std::time::{Duration, Instant};
 
 /// The most connections that are open at once.
 const ROOM: usize = 8_192;
 
-/// How long a closed connection goes on when its peer takes nothing of what was sent, in microseconds
-/// of rests; a pass without a rest counts as one. What the peer sends meanwhile is read, and left.
-const LINGER: u32 = 600_000;
+/// The most connections that are being closed at once.
+const CLOSING_ROOM: usize = 256;
 
-/// The time that a pass without a rest counts as, in microseconds.
-const PASSING: u32 = 1;
+/// How long a closed connection goes on when its peer takes nothing of what was sent, in microseconds.
+/// What the peer sends meanwhile is read, and left.
+const LINGER: u128 = 600_000;
 
 /// The bytes of a piece of memory that is larger than any that a server takes for a value.
 const LARGE: usize = 32_000_000;
@@ -46,18 +46,20 @@ struct Open {
 #[derive(Drop)]
 struct Closing {
     connection: Connection,
-    patience: u32,
+    since: Option<Instant>,
     ended: bool,
+    heard: bool,
 }
 
-/// Sockets that do not block, which are read in turn. The open ones stand by their numbers.
+/// Sockets that do not block, which are read in turn, from the place of the next one on. The open ones
+/// stand by their numbers.
 #[derive(Drop)]
 pub(crate) struct Sockets {
     alloc: Global,
     listener: Option<TcpListener>,
     open: Vec<Open>,
     closing: Vec<Closing>,
-    turn: usize,
+    next: usize,
     reads: u32,
     given: u32,
     pace: Pace,
@@ -88,7 +90,7 @@ impl Sockets {
             listener: None,
             open: Vec::with_capacity(alloc, ROOM)?,
             closing: Vec::with_capacity(alloc, ROOM)?,
-            turn: 0,
+            next: 0,
             reads: 0,
             given: 0,
             pace: Pace::new(),
@@ -134,10 +136,8 @@ impl Sockets {
     pub(crate) fn close(&mut self, number: u32) -> io::Result<()> {
         match self.place_of(number) {
             Some(place) if place < self.open.len() => {
-                let mut closing = Closing::of(self.open.remove(place).connection);
-                if closing.goes_on(0) && self.closing.len() < ROOM {
-                    self.closing.push(closing)?;
-                }
+                let connection = self.take_out(place);
+                self.finish(Closing::of(connection));
                 Ok(())
             }
             _ => Ok(()),
@@ -148,21 +148,20 @@ impl Sockets {
     pub(crate) fn wait<C: Clock>(&mut self, clock: &C, buf: &mut [u8]) -> io::Result<Arrival>
         ensures { IfOk result (InBuffer (length buf.new)) }
     {
-        let mut passed = PASSING;
         for _ in 0..PASSES {
-            self.go_on(passed);
-            passed = PASSING;
+            self.flush();
             if let Some(arrival) = self.read_or_accept(buf)? {
                 self.pace.hurry();
                 return Ok(arrival);
             }
+            if self.pace.is_over(clock) {
+                break;
+            }
             if self.pace.is_eager(self.open.len()) {
                 continue;
             }
-            if self.pace.is_over() {
-                break;
-            }
-            passed = self.pace.rest(clock);
+            self.pace.rest(clock);
+            self.closing.retain_mut(|closing| closing.goes_on(clock));
         }
         Ok(Arrival::Quiet)
     }
@@ -221,14 +220,18 @@ impl Sockets {
         }
     }
 
-    /// The first piece of a pass over the open connections, from behind the last one that was read.
+    /// The first piece of a pass over the open connections, from the one that is next on.
     fn read_any(&mut self, buf: &mut [u8]) -> Option<Arrival>
         ensures { IfSome result (InBuffer (length buf.new)) }
     {
         for _ in 0..self.open.len() {
-            let after = self.turn.saturating_add(1);
-            self.turn = if after < self.open.len() { after } else { 0 };
-            if let Some(arrival) = self.read_at(self.turn, buf) {
+            let place = if self.next < self.open.len() {
+                self.next
+            } else {
+                0
+            };
+            self.next = place.saturating_add(1);
+            if let Some(arrival) = self.read_at(place, buf) {
                 return Some(arrival);
             }
         }
@@ -248,21 +251,41 @@ impl Sockets {
             Ok(None) => None,
             Ok(Some(count)) if count > 0 => Some(Arrival::Bytes(number, count)),
             Ok(Some(_)) | Err(_) => {
-                let _gone = self.open.remove(place);
+                let mut closing = Closing::of(self.take_out(place));
+                closing.heard = true;
+                self.finish(closing);
                 Some(Arrival::Closed(number))
             }
         }
     }
 
-    /// Hands the sockets what waits for them, and goes on with those that are being closed, where so much
-    /// time passed. A peer that takes what waits for it will soon take more.
-    fn go_on(&mut self, passed: u32) {
+    /// Takes the connection out. Those behind it move up, and the next one stays the next.
+    fn take_out(&mut self, place: usize) -> Connection
+        requires { place < length self.old.«open».items }
+    {
+        if place < self.next {
+            self.next -= 1;
+        }
+        self.open.remove(place).connection
+    }
+
+    /// Sends what waits on a connection that was closed on one side, as long as there is room for such.
+    fn finish(&mut self, mut closing: Closing) {
+        if self.closing.len() < CLOSING_ROOM && closing.is_taken().is_some() {
+            let _kept = self.closing.push(closing);
+        }
+    }
+
+    /// Hands the sockets what waits for them. A peer that takes some will soon take more.
+    fn flush(&mut self) {
         for open in self.open.iter_mut() {
             if matches!(open.connection.flush(), Ok(true)) {
                 self.pace.hurry();
             }
         }
-        self.closing.retain_mut(|closing| closing.goes_on(passed));
+        for closing in self.closing.iter_mut() {
+            closing.flush();
+        }
     }
 }
 
@@ -271,20 +294,37 @@ impl Closing {
     fn of(connection: Connection) -> Closing {
         Closing {
             connection,
-            patience: LINGER,
+            since: None,
             ended: false,
+            heard: false,
+        }
+    }
+
+    /// Sends what waits. Where the peer takes some, its time begins again.
+    fn flush(&mut self) {
+        if matches!(self.connection.flush(), Ok(true)) {
+            self.since = None;
         }
     }
 
     /// Sends what waits, then ends, and reads until the peer has ended too; whether that is still to be
-    /// done. Where the peer takes something, the time that passed counts no more.
-    fn goes_on(&mut self, passed: u32) -> bool {
+    /// done, and not too long since the peer took something.
+    fn goes_on<C: Clock>(&mut self, clock: &C) -> bool {
         match self.is_taken() {
-            Some(true) => self.patience = LINGER,
-            Some(false) => self.patience = self.patience.saturating_sub(passed),
+            Some(true) => self.since = None,
+            Some(false) => {}
             None => return false,
         }
-        self.patience > 0
+        match self.since {
+            None => {
+                self.since = Instant::now(clock).ok();
+                true
+            }
+            Some(since) => match since.elapsed(clock) {
+                Ok(passed) => passed.as_micros() < LINGER,
+                Err(_) => false,
+            },
+        }
     }
 
     /// Whether the peer took anything; none where the connection is at its end, or failed.
@@ -295,9 +335,17 @@ impl Closing {
             self.ended = true;
         }
         let mut rest = [0u8; 4_096];
-        match self.connection.read(&mut rest) {
-            Ok(Some(0)) | Err(_) => None,
-            Ok(_) => Some(took),
+        if !self.heard {
+            match self.connection.read(&mut rest) {
+                Ok(Some(0)) => self.heard = true,
+                Ok(_) => {}
+                Err(_) => return None,
+            }
+        }
+        if self.ended && self.heard {
+            None
+        } else {
+            Some(took)
         }
     }
 }

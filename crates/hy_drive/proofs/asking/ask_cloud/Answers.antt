@@ -16,14 +16,14 @@ returns-in_err-await_answer-in-Ok-send-clause-plays g c =
     let p = err_from_is_err_and c.from_residual-in_err-await_answer-in-Ok-send.result c.from_residual-in_err-await_answer-in-Ok-send.ensures.1 in
     let port-is : c.args.job.now.clouds + c.from.result ≡ cloud_port c.args.job.now.clouds c.args.ask.now = ap (λ (n : ℕ). c.args.job.now.clouds + n) c.from.ensures in
     rw (p.1, p.2) (Adds-more g.N.Net.told g.N.Net.tells c.args.net.now c.dial.new.self c.send.new.self _ _ _ c.in-Ok.ensures.tells c.in-Ok-send.ensures.tells
-    (λ moves is. cloud-starved-sent c.args.job.now c.args.driver.now c.await_answer.new.self c.args.ask.now c.in-Ok.conn _
+    (λ moves is. cloud-starved-sent c.args.job.now c.args.driver.now c.await_answer.new.self c.args.ask.now c.in-Ok.conn _ c.in_ok-request.ensures.known
     (sent-as c.args.job.now c.args.ask.now c.in-Ok.conn true _ _ moves port-is (c.bytes.ensures ∙ c.in_ok-request.ensures.bytes) is)))
 
 pub returns-in-Ok-send-clause-plays : goal.returns-in-Ok-send-clause-plays
 returns-in-Ok-send-clause-plays g c =
     let port-is : c.args.job.now.clouds + c.from.result ≡ cloud_port c.args.job.now.clouds c.args.ask.now = ap (λ (n : ℕ). c.args.job.now.clouds + n) c.from.ensures in
     Adds-more g.N.Net.told g.N.Net.tells c.args.net.now c.dial.new.self c.send.new.self _ _ _ c.in-Ok.ensures.tells c.in-Ok-send.ensures.tells
-    (λ moves is. cloud-sent c.args.job.now c.args.driver.now c.await_answer.new.self c.args.ask.now c.in-Ok.conn c.of-errand.result c.kind_of.result _ c.in_ok-await_answer-in-Ok-send.ensures
+    (λ moves is. cloud-sent c.args.job.now c.args.driver.now c.await_answer.new.self c.args.ask.now c.in-Ok.conn c.of-errand.result c.kind_of.result _ c.in_ok-request.ensures.known c.in_ok-await_answer-in-Ok-send.ensures
     c.of-errand.ensures c.kind_of.ensures
     (sent-as c.args.job.now c.args.ask.now c.in-Ok.conn true _ _ moves port-is (c.bytes.ensures ∙ c.in_ok-request.ensures.bytes) is))
 
@@ -36,7 +36,7 @@ returns-in_err-lose-in-Err-send-clause-plays g c =
     (Adds-more g.N.Net.told g.N.Net.tells c.args.net.now c.dial.new.self c.send.new.self _ _ _ c.in-Ok.ensures.tells c.in-Err-send.ensures.tells
     (λ moves is. sent-as c.args.job.now c.args.ask.now c.in-Ok.conn false _ _ moves port-is (c.bytes.ensures ∙ c.in_ok-request.ensures.bytes) is))
     c.close.ensures.tells
-    (λ moves is. cloud-starved-unsent c.args.job.now c.args.driver.now c.lose.new.self c.args.ask.now c.in-Ok.conn _ (ap (λ (m : List Move). called (close c.in-Ok.conn) ∷ m) is)))
+    (λ moves is. cloud-starved-unsent c.args.job.now c.args.driver.now c.lose.new.self c.args.ask.now c.in-Ok.conn _ c.in_ok-request.ensures.known (ap (λ (m : List Move). called (close c.in-Ok.conn) ∷ m) is)))
 
 pub returns-in-Ok-clause-plays : goal.returns-in-Ok-clause-plays
 returns-in-Ok-clause-plays g c =
@@ -46,7 +46,7 @@ returns-in-Ok-clause-plays g c =
     (Adds-more g.N.Net.told g.N.Net.tells c.args.net.now c.dial.new.self c.send.new.self _ _ _ c.in-Ok.ensures.tells c.in-Err-send.ensures.tells
     (λ moves is. sent-as c.args.job.now c.args.ask.now c.in-Ok.conn false _ _ moves port-is (c.bytes.ensures ∙ c.in_ok-request.ensures.bytes) is))
     c.close.ensures.tells
-    (λ moves is. cloud-unsent c.args.job.now c.args.driver.now c.lose.new.self c.args.ask.now c.in-Ok.conn c.of-errand.result _ c.in_ok-lose-in-Err-send.ensures c.of-errand.ensures
+    (λ moves is. cloud-unsent c.args.job.now c.args.driver.now c.lose.new.self c.args.ask.now c.in-Ok.conn c.of-errand.result _ c.in_ok-request.ensures.known c.in_ok-lose-in-Err-send.ensures c.of-errand.ensures
     (ap (λ (m : List Move). called (close c.in-Ok.conn) ∷ m) is))
 
 pub returns-in-Ok-clause-stands : goal.returns-in-Ok-clause-stands

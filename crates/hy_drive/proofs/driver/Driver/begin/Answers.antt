@@ -10,6 +10,7 @@ returns-in-Ok c =
     let stands = c.new-client.ensures.stands in
     begins-new c.args.job.now c.args.self.now (record c.args.self.now { client = Some c.invoke.new.self; sends = c.from.result }) c.args.number c.invoke.new.self c.requires.shape
     (record { service = refl; lines = refl }) refl refl
-    (fits c.args.job.now.action (sym (fresh-refusal c.args.job.now.f c.args.job.now.k c.args.number c.args.job.now.action)
+    (fits c.args.job.now.action (sym (fresh-refusal c.args.job.now.f c.args.job.now.k c.args.number c.args.job.now.action c.requires.drives.key)
     ∙ accepted c.invoke.result (invoke_refusal s c.args.job.now.action) (c.invoke.ensures.refused s stands) c.in-Ok.sends c.in-Ok.is))
+    c.requires.drives.no_swap
     (c.in-Ok.ensures.ok s stands) (c.from.ensures.0 ∙ c.in-Ok.ensures.sends s stands)

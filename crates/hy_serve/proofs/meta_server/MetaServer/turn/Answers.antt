@@ -1,11 +1,12 @@
-use Rattle.std.proofs.Common.{◌≡◌}
+use Rattle.std.proofs.Common.{◌≡◌, sym, subst}
 use Rattle.std.proofs.lemmas.Result.{IfOk-weaker}
 use Rattle.hy_serve.specs.declared.letter.Turn.{Turn}
 use Rattle.hy_serve.specs.declared.letter.Turn.TheVariants.{Rests}
 use Rattle.hy_serve.specs.declared.meta_lines.Step.TheVariants.{Waits}
-use Rattle.hy_serve.specs.MetaStanding.{Answers, ReadsNext, Falls}
+use Rattle.hy_serve.specs.MetaStanding.{line_of, Answers, ReadsNext, Falls, IsFramedStep}
 use Rattle.hy_serve.proofs.Results.{if_ok}
 use Rattle.hy_serve.proofs.MetaStands.{reads-next}
+use Rattle.hy_serve.proofs.MetaFramed.{step-framed}
 use Rattle.hy_serve.proofs.MetaWeights.{falls-behind}
 use Rattle.hy_serve.proofs.meta_server.MetaServer.turn.Goals as goal
 
@@ -22,3 +23,7 @@ returns-clause-falls c = if_ok c.answer.result
     (Falls c.args.self.now c.answer.new.self c.args.conn)
     c.answer.ensures.rests c.answer.ensures.weights
     (λ turn rests weights. falls-behind c.args.self.now c.read.new.self c.answer.new.self c.args.conn c.in_ok-step.step turn c.in_ok-step.ensures.step c.in_ok-step.ensures.line rests weights)
+
+pub answer-requires : goal.answer-requires
+unfolding line_of
+answer-requires c = subst IsFramedStep (sym c.in_ok-step.ensures.step) (step-framed (line_of c.args.self.now c.args.conn))

@@ -1,7 +1,7 @@
 use Rattle.std.proofs.Common.{sym, ap, ◌∙◌}
 use Rattle.hy_serve.specs.MetaStanding.{home_of}
 use Rattle.hy_serve.proofs.MetaLetters.{posts-one, posts-none}
-use Rattle.hy_serve.proofs.meta_server.MetaServer.post.Goals as goal
+use Rattle.hy_serve.proofs.meta_server.MetaServer.post_framed.Goals as goal
 
 pub returns-in_ok-push : goal.returns-in_ok-push
 unfolding home_of
