@@ -13,6 +13,14 @@ use Rattle.hy_top.specs.declared.status.Status.TheVariants.{NoMemory, Exhausted}
 abbrev pub done_line : Timestamp → List ℕ
 done_line stamp = line_text (codes "done" ∷ stamp_words stamp)
 
+-- a swap was done, with this timestamp
+abbrev pub swapped_line : Timestamp → List ℕ
+swapped_line stamp = line_text (codes "swapped" ∷ stamp_words stamp)
+
+-- a swap found a record with this timestamp, and not the one that it expected
+abbrev pub changed_line : Timestamp → List ℕ
+changed_line stamp = line_text (codes "changed" ∷ stamp_words stamp)
+
 -- the key is absent, with this timestamp
 abbrev pub none_line : Timestamp → List ℕ
 none_line stamp = line_text (codes "none" ∷ stamp_words stamp)
@@ -36,6 +44,8 @@ reply_told (replies.Exhausted stamp) = Err (Exhausted stamp)
 reply_told (replies.Value value stamp) = Ok (value_text value stamp)
 reply_told (replies.Absent stamp) = Ok (none_line stamp)
 reply_told (replies.Collected count) = Ok (collected_line count)
+reply_told (replies.Swapped stamp) = Ok (swapped_line stamp)
+reply_told (replies.Changed stamp) = Ok (changed_line stamp)
 
 -- a reply was told so, unless memory ran out
 abbrev pub TellsReply : Reply → Result (List ℕ) Status → Type 0

@@ -20,6 +20,8 @@ pub(crate) fn reply_text(alloc: Global, reply: Reply) -> Result<Blob, Status>
         Reply::Value(value, stamp) => Ok(value_text(alloc, &value, &stamp)?),
         Reply::Absent(stamp) => Ok(Blob::of(stamp_line(alloc, b"none", &stamp)?)),
         Reply::Collected(count) => Ok(collected_line(alloc, count)?),
+        Reply::Swapped(stamp) => Ok(Blob::of(stamp_line(alloc, b"swapped", &stamp)?)),
+        Reply::Changed(stamp) => Ok(Blob::of(stamp_line(alloc, b"changed", &stamp)?)),
     }
 }
 

@@ -1,8 +1,10 @@
 //! Commands on a key of a store.
 
-ghost use Rattle.std.specs.Prelude.{◌≡◌, ◌≤◌, None};
+ghost use Rattle.std.specs.Prelude.{◌≡◌, ◌≤◌, false, None};
 ghost use Rattle.hy_base.specs.Source.{source_use};
+ghost use Rattle.hy_record.specs.Key.{is_cell};
 ghost use Rattle.hy_drive.specs.Going.{too_large};
+ghost use Rattle.hy_drive.specs.Role.{IsDrivable};
 ghost use Rattle.hy_top.specs.NetUse.{net_use};
 ghost use Rattle.hy_top.specs.Operate.{Operates, Puts, job_of};
 ghost use Rattle.hy_words.specs.Words.{IsRequest};
@@ -23,7 +25,8 @@ pub(crate) fn put_input<S: Source, N: Net>(
     input: &mut S,
     net: &mut N,
 ) -> Result<Blob, Status>
-    requires { IsRequest request.now }
+    requires request { IsRequest request.now }
+    requires plain { is_cell request.now.key ≡ false }
     ensures puts { Puts request.now (source_use S.left S.faults input.old input.new)
         (net_use N.told N.tells N.taking_faults N.sending_faults net.old net.new) result }
     ensures reads { S.faults input.old ≤ S.faults input.new }
@@ -42,6 +45,7 @@ pub(crate) fn operate<N: Net>(
 ) -> Result<Blob, Status>
     requires request { IsRequest request.now }
     requires small { too_large action ≡ None }
+    requires drives { IsDrivable action }
     ensures { Operates (job_of request.now action) request.now.arrivals
         (net_use N.told N.tells N.taking_faults N.sending_faults net.old net.new) result }
 {

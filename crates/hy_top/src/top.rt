@@ -1,6 +1,6 @@
 //! The top call: reads the words, does the job, and tells how it went.
 
-ghost use Rattle.std.specs.Prelude.{◌≡◌, ◌≤◌, IfOk, map};
+ghost use Rattle.std.specs.Prelude.{◌≡◌, ◌≤◌, false, IfOk, map};
 ghost use Rattle.std.specs.String.{string_bytes};
 ghost use Rattle.hy_base.specs.Sink.{sink_use};
 ghost use Rattle.hy_base.specs.Source.{source_use};
@@ -10,7 +10,7 @@ ghost use Rattle.hy_top.specs.Job.{ComesTo, DoesOnText, status_due, text_due};
 ghost use Rattle.hy_top.specs.NetUse.{net_use};
 ghost use Rattle.hy_top.specs.Operate.{DoesOnStore};
 ghost use Rattle.hy_top.specs.Vectors.{GivesVectors};
-ghost use Rattle.hy_words.specs.Words.{IsRequest};
+ghost use Rattle.hy_words.specs.Words.{IsRequest, is_misplaced};
 ghost use Rattle.hy_words.specs.declared.command.StoreCommand.TheVariants as commands;
 
 use crate::input::read_input;
@@ -84,7 +84,8 @@ fn answer_on<S: Source, N: Net>(
     input: &mut S,
     net: &mut N,
 ) -> Result<Blob, Status>
-    requires { IsRequest request.now }
+    requires request { IsRequest request.now }
+    requires placed { is_misplaced command request.now.key ≡ false }
     ensures answer { DoesOnStore command request.now
         (source_use S.left S.faults input.old input.new)
         (net_use N.told N.tells N.taking_faults N.sending_faults net.old net.new) result }

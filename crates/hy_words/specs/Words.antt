@@ -1,13 +1,15 @@
 -- What the words of the command line ask for.
-use Rattle.std.specs.Prelude.{◌≤◌, ℕ, List, [], ◌∷◌, Option, Some, None, Result, Ok, codes}
+use Rattle.std.specs.Prelude.{◌≡◌, ◌≤◌, ℕ, Bool, false, List, [], ◌∷◌, Option, Some, None, Result, Ok, Err, codes, if◌then◌else◌}
 use Rattle.hy_base.specs.Results.{◌>>=◌}
 use Rattle.hy_base.specs.Shape.{IsShape}
 use Rattle.hy_base.specs.declared.fault.Cause.{Cause}
+use Rattle.hy_base.specs.declared.fault.Cause.TheVariants.{BadKey, BadWord}
 use Rattle.hy_base.specs.declared.limits.TheConstants.{MAX_F, MAX_K, MAX_MADE}
+use Rattle.hy_record.specs.Key.{is_cell}
 use Rattle.hy_text.specs.Line.{first_word, later_words}
 use Rattle.hy_text.specs.Slot.{end_of, key_word, number_of}
 use Rattle.hy_text.specs.Table.{value_named}
-use Rattle.hy_words.specs.Given.{given_of}
+use Rattle.hy_words.specs.Given.{given_of, is_option}
 use Rattle.hy_words.specs.declared.command.Command.{Command}
 use Rattle.hy_words.specs.declared.command.Command.TheVariants.{OnText, Make, Vectors, Meta, Cloud, OnStore}
 use Rattle.hy_words.specs.declared.command.StoreCommand.{StoreCommand}
@@ -66,21 +68,38 @@ served_of words =
     end_of (later_words given.operands) >>= λ _.
     Ok (port, number_or SERVER_ARRIVALS given.arrivals)
 
+-- whether a compare-and-swap key would be put or deleted
+abbrev pub is_misplaced : StoreCommand → List ℕ → Bool
+is_misplaced stores.Put key = is_cell key
+is_misplaced stores.Get key = false
+is_misplaced stores.Delete key = is_cell key
+is_misplaced stores.Collect key = false
+
+-- the key, where the command may name it
+abbrev pub placed_key : StoreCommand → List ℕ → Result (List ℕ) Cause
+placed_key command key = if is_misplaced command key then Err BadKey else Ok key
+
+-- the key that the word spells, where it is no option
+unfoldable pub key_for : StoreCommand → List ℕ → Result (List ℕ) Cause
+key_for command word =
+    if is_option word then Err BadWord else (key_word word >>= λ key. placed_key command key)
+
 -- the store and the key, with so many arrivals where the option gives no number
-unfoldable pub request_of : ℕ → List (List ℕ) → Result Request Cause
-request_of usual words =
+unfoldable pub request_of : StoreCommand → ℕ → List (List ℕ) → Result Request Cause
+request_of command usual words =
     given_of words >>= λ given.
     number_of 0 MAX_F (first_word given.operands) >>= λ f.
     number_of 1 MAX_K (first_word (later_words given.operands)) >>= λ k.
     port_of MAX_PORT (first_word (later_words (later_words given.operands))) >>= λ meta.
     port_of MAX_FIRST_PORT (first_word (later_words (later_words (later_words given.operands)))) >>= λ clouds.
-    key_word (first_word (later_words (later_words (later_words (later_words given.operands))))) >>= λ key.
+    key_for command (first_word (later_words (later_words (later_words (later_words given.operands))))) >>= λ key.
     end_of (later_words (later_words (later_words (later_words (later_words given.operands))))) >>= λ _.
     Ok (record { f = f; k = k; meta = meta; clouds = clouds; key = key; arrivals = number_or usual given.arrivals })
 
 -- a command on a key of a store
 abbrev pub on_store : StoreCommand → ℕ → List (List ℕ) → Result Command Cause
-on_store command usual words = request_of usual words >>= λ request. Ok (OnStore command request)
+on_store command usual words =
+    request_of command usual words >>= λ request. Ok (OnStore command request)
 
 -- the command of a name, of the words behind it
 abbrev pub command_by : Name → List (List ℕ) → Result Command Cause
@@ -106,17 +125,18 @@ pub record IsPort (last port : ℕ) : Type 0 where
   pub some : 1 ≤ port
   pub within : port ≤ last
 
--- the store and its ports are within their limits
+-- the store and its ports are within their limits, and no option was taken as the key
 pub record IsRequest (request : Request) : Type 0 where
   pub shape : IsShape request.f request.k
   pub meta : IsPort MAX_PORT request.meta
   pub clouds : IsPort MAX_FIRST_PORT request.clouds
+  pub key : is_option request.key ≡ false
 
--- the numbers of a command are within their limits
+-- the numbers of a command are within their limits, and it may name its key
 abbrev pub IsInRange : Command → Type 0
 IsInRange (OnText command) = Unit {0}
 IsInRange (Make seed events) = (seed ≤ MAX_SEED) × (events ≤ MAX_MADE)
 IsInRange Vectors = Unit {0}
 IsInRange (Meta port arrivals) = IsPort MAX_PORT port
 IsInRange (Cloud port arrivals) = IsPort MAX_PORT port
-IsInRange (OnStore command request) = IsRequest request
+IsInRange (OnStore command request) = IsRequest request × (is_misplaced command request.key ≡ false)

@@ -32,7 +32,7 @@ impl<'a> Model for Given<'a> {
 }
 
 /// Whether the word begins with a dash.
-fn is_option(word: &[u8]) -> bool
+pub(crate) fn is_option(word: &[u8]) -> bool
     ensures { result ≡ is_option word.now }
 {
     matches!(word, [b'-', ..])

@@ -1,10 +1,11 @@
 //! Reads the words of the command line.
 
-ghost use Rattle.std.specs.Prelude.{◌≡◌, IfOk, map, string_bytes};
-ghost use Rattle.hy_words.specs.Words.{IsInRange, IsPort, IsRequest, alone, command_by, command_of, make_of, on_store, port_of, request_of, served_of};
+ghost use Rattle.std.specs.Prelude.{◌≡◌, IfOk, false, map, string_bytes};
+ghost use Rattle.hy_words.specs.Given.{is_option};
+ghost use Rattle.hy_words.specs.Words.{IsInRange, IsPort, IsRequest, alone, command_by, command_of, is_misplaced, key_for, make_of, on_store, port_of, request_of, served_of};
 
 use crate::command::{Command, StoreCommand, TextCommand};
-use crate::given::given_of;
+use crate::given::{given_of, is_option};
 use crate::limits::{
     CLIENT_ARRIVALS, COLLECT_ARRIVALS, MAX_FIRST_PORT, MAX_PORT, MAX_SEED, SERVER_ARRIVALS,
 };
@@ -12,6 +13,7 @@ use crate::name::{NAMES, Name};
 use crate::operands::{Operands, first_word};
 use crate::request::Request;
 use hy_base::{Cause, MAX_F, MAX_K, MAX_MADE};
+use hy_record::Key;
 use hy_text::{read_key, read_named, read_number, read_u32};
 
 /// The command that the words ask for.
@@ -96,21 +98,49 @@ fn on_store(command: StoreCommand, usual: u32, words: &[String]) -> Result<Comma
     ensures command { result ≡ on_store command usual (map string_bytes words.now) }
     ensures range { IfOk result IsInRange }
 {
-    Ok(Command::OnStore(command, read_request(usual, words)?))
+    Ok(Command::OnStore(command, read_request(command, usual, words)?))
+}
+
+/// Whether a compare-and-swap key would be put or deleted: only a swap writes it.
+fn is_misplaced(command: StoreCommand, key: &Key) -> bool
+    ensures { result ≡ is_misplaced command key.now }
+{
+    match command {
+        StoreCommand::Put | StoreCommand::Delete => key.is_cell(),
+        StoreCommand::Get | StoreCommand::Collect => false,
+    }
+}
+
+/// The key that the word spells, where it is no option.
+#[tactic(auto, unfolding(crate::specs::Words::key_for))]
+fn read_key_for(command: StoreCommand, word: &[u8]) -> Result<Key, Cause>
+    ensures key { result ≡ key_for command word.now }
+    ensures named { IfOk result (λ key. is_option key ≡ false) }
+    ensures placed { IfOk result (λ key. is_misplaced command key ≡ false) }
+{
+    if is_option(word) {
+        return Err(Cause::BadWord);
+    }
+    let key = read_key(word)?;
+    if is_misplaced(command, &key) {
+        return Err(Cause::BadKey);
+    }
+    Ok(key)
 }
 
 /// The store and the key.
 #[tactic(auto, unfolding(crate::specs::Words::request_of))]
-fn read_request(usual: u32, words: &[String]) -> Result<Request, Cause>
-    ensures request { result ≡ request_of usual (map string_bytes words.now) }
+fn read_request(command: StoreCommand, usual: u32, words: &[String]) -> Result<Request, Cause>
+    ensures request { result ≡ request_of command usual (map string_bytes words.now) }
     ensures range { IfOk result IsRequest }
+    ensures placed { IfOk result (λ request. is_misplaced command request.key ≡ false) }
 {
     let mut given = given_of(words)?;
     let f = read_u32(given.operands.next_word(), 0, MAX_F.into())? as u8;
     let k = read_u32(given.operands.next_word(), 1, MAX_K.into())? as u8;
     let meta = read_port(given.operands.next_word(), MAX_PORT)?;
     let clouds = read_port(given.operands.next_word(), MAX_FIRST_PORT)?;
-    let key = read_key(given.operands.next_word())?;
+    let key = read_key_for(command, given.operands.next_word())?;
     given.operands.end()?;
     Ok(Request {
         f,

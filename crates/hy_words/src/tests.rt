@@ -101,6 +101,9 @@ fn words_on_a_store_name_it(rt: HostRuntime) -> Result<(), Fail> {
     ] {
         assert!(rt; read_command(&words(alloc, line)?) == Ok(command), "{line}");
     }
+    for line in ["get 0 1 7000 7100 _a", "collect 0 1 7000 7100 _a"] {
+        assert!(rt; read_command(&words(alloc, line)?).is_ok(), "{line}");
+    }
     for line in [
         "put",
         "put 4 1 7000 7100 a",
@@ -115,6 +118,10 @@ fn words_on_a_store_name_it(rt: HostRuntime) -> Result<(), Fail> {
         "put 0 1 7000 7100 -a",
         "put 0 1 7000 7100 a/b",
         "put 0 1 7000 7100 a --arrivals 0",
+        "put 0 1 7000 7100 --arrivals 5 -a",
+        "get 0 1 7000 7100 --arrivals=5 --arrivals",
+        "put 0 1 7000 7100 _a",
+        "delete 0 1 7000 7100 _a",
     ] {
         assert!(rt; read_command(&words(alloc, line)?).is_err(), "{line}");
     }
