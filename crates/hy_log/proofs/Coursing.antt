@@ -1,8 +1,8 @@
 -- One deed more changes the courses of operations as its effects tell.
 use Rattle.std.proofs.Common.{◌≡◌, ℕ, ◌+◌, Bool, true, false, cond, List, [], ◌∷◌, length, Option, Some, None, refl, sym, ap, subst, ◌∙◌, inl, inr, arith}
-use Rattle.std.specs.Prelude.{◌==◌, ◌&&◌}
+use Rattle.std.specs.Prelude.{◌==◌, ◌&&◌, ◌||◌}
 use Rattle.std.specs.Option.{option_map, option_or}
-use Rattle.std.proofs.lemmas.Option.{none-some}
+use Rattle.std.proofs.lemmas.Option.{none-some, same_Some}
 use Rattle.std.proofs.lemmas.Bool.{eqb-true}
 use Rattle.std.proofs.lemmas.Bool.Decides.{nat_tests}
 use Rattle.hy_record.specs.declared.action.Action.{Action}
@@ -10,27 +10,34 @@ use Rattle.hy_record.specs.declared.action.Action.TheVariants as asked
 use Rattle.hy_record.specs.declared.action.Reply.{Reply}
 use Rattle.hy_record.specs.declared.message.MetaAsk.{MetaAsk}
 use Rattle.hy_record.specs.declared.message.MetaAsk.TheVariants as asks
+use Rattle.hy_record.specs.declared.message.MetaSay.{MetaSay}
+use Rattle.hy_record.specs.declared.message.MetaSay.TheVariants as says
 use Rattle.hy_record.specs.declared.turn.Cue.{Cue}
 use Rattle.hy_record.specs.Record.{RecordValue}
 use Rattle.hy_record.specs.Stamp.{Timestamp, stamp_lt}
-use Rattle.hy_meta.specs.Service.{stamp_of_record, record_stamp}
+use Rattle.hy_meta.specs.Service.{Attempt, attempt_of, is_judged, applies, stamp_of_record, record_after, record_stamp}
+use Rattle.hy_meta.specs.Meta.{judged_answer, Judged, last_swap, repeated_answer, service_answers}
+use Rattle.hy_meta.specs.Run.{IsTried, IsApplied}
 use Rattle.hy_meta.proofs.Rising.{cases_bool, both}
 use Rattle.hy_protocol.specs.Inputs.{has_of}
 use Rattle.hy_protocol.specs.Operations.{replied}
 use Rattle.hy_protocol.specs.Read.{Version, version_of, newer_version, read_reply}
+use Rattle.hy_protocol.specs.Swap.{swap_reply}
 use Rattle.hy_protocol.specs.Write.{first_has, write_reply}
 use Rattle.hy_protocol.specs.Collect.{collect_reply}
 use Rattle.hy_trace.specs.Deeds.{Params, Deed, Joined, Began, Handed, Served, Granted, Stopped, Nothing, Start, served, inputs_of, start_of, start_at, reply_after, reply_of}
 use Rattle.hy_trace.specs.History.{Return, return_of}
-use Rattle.hy_trace.specs.Points.{Update, update_by, passing, first_update, is_own, version_made, newer_made, was_applied}
+use Rattle.hy_trace.specs.Points.{Update, update_as, update_by, passing, first_update, is_own, version_made, newer_made, is_applied_own, was_applied}
 use Rattle.hy_trace.specs.Trace.{IsTrace, IsIdle, Awaits}
 use Rattle.hy_trace.proofs.Growth.{or-none}
+use Rattle.hy_theorems.proofs.Overwritten.{applied-was}
 use Rattle.hy_theorems.proofs.RealTime.{return-reply}
+use Rattle.hy_theorems.proofs.TopAt.{tried-first}
 use Rattle.hy_log.specs.declared.course.FirstUpdate.{FirstUpdate}
 use Rattle.hy_log.specs.declared.course.Returned.{Returned}
 use Rattle.hy_log.specs.declared.course.Course.{Course}
-use Rattle.hy_log.specs.declared.course.News.TheVariants.{Heard, Replied}
-use Rattle.hy_log.specs.Effects.{return_with, return_at, heard_with, heard_at, updated_by, updated_at}
+use Rattle.hy_log.specs.declared.course.News.TheVariants.{Heard, Replied, Updated}
+use Rattle.hy_log.specs.Effects.{return_with, return_at, heard_with, heard_at, is_swapped, answered_swap, updated_as, updated_by, updated_at}
 use Rattle.hy_log.specs.Courses.{fresh, noted, noted_by, note_of_heard, note_of_return, note_of_update, kept_return, kept_update, version_stamp, earlier_made, first_made, course_of}
 
 abbrev course : Option Returned → Option Timestamp → ℕ → Option Timestamp → ℕ → Option FirstUpdate → Bool → Course
@@ -80,10 +87,11 @@ unfinished-return p c o t trace none = by (return_of p c o t) refl
 
 -- an operation that took no input has no reply
 pub no-reply : (p : Params) (c o : ℕ) (a : Action) → replied p.f p.k c o a [] ≡ None
-unfolding replied write_reply read_reply collect_reply
+unfolding replied write_reply read_reply collect_reply swap_reply
 no-reply p c o (asked.Put key value) = refl
 no-reply p c o (asked.Delete key) = refl
 no-reply p c o (asked.Get key) = refl
+no-reply p c o (asked.Swap key expected value) = refl
 no-reply p c o (asked.Collect key) = refl
 
 no-reply-after : (p : Params) (c o : ℕ) (s : Option Start) → reply_after p c o [] s ≡ None
@@ -134,6 +142,43 @@ more-updated (Some v) u = refl
 none-updated : (old : Option Update) → option_map kept_update (option_or old None) ≡ option_map kept_update old
 none-updated old = ap (option_map kept_update) (or-none old)
 
+-- the last swap of a client that was judged was attempted, and applied where its answer says so
+record WasJudged (requests : List MetaAsk) (c o : ℕ) (say : MetaSay) : Type 0 where
+  attempt : Attempt
+  tried : IsTried requests attempt
+  client : attempt.client ≡ c
+  op : attempt.op ≡ o
+  applied : is_swapped say ≡ true → IsApplied requests attempt
+
+judged-later : (ask : MetaAsk) (before : List MetaAsk) (client op : ℕ) (say : MetaSay) → WasJudged before client op say → WasJudged (ask ∷ before) client op say
+judged-later ask before client op say was = record { attempt = was.attempt; tried = inr was.tried; client = was.client; op = was.op; applied = λ is. inr (was.applied is) }
+
+last-tried : (requests : List MetaAsk) (client : ℕ) (j : Judged) → last_swap requests client ≡ Some j → WasJudged requests client j.op j.say
+unfolding last_swap judged_answer
+last-tried [] client j is = absurd (none-some j is)
+last-tried (asks.Read b n k ∷ before) client j is = judged-later (asks.Read b n k) before client j.op j.say (last-tried before client j is)
+last-tried (asks.Update b n k r ∷ before) client j is = judged-later (asks.Update b n k r) before client j.op j.say (last-tried before client j is)
+last-tried (asks.Watch b n k s ∷ before) client j is = judged-later (asks.Watch b n k s) before client j.op j.say (last-tried before client j is)
+last-tried (asks.Olds b n k ∷ before) client j is = judged-later (asks.Olds b n k) before client j.op j.say (last-tried before client j is)
+last-tried (asks.Forget b n k ss ∷ before) client j is = judged-later (asks.Forget b n k ss) before client j.op j.say (last-tried before client j is)
+last-tried (asks.Swap b n k e r ∷ before) client j is =
+    elim (cases_bool (b == client && is_judged before b n)) [
+      | inr other ↦ judged-later (asks.Swap b n k e r) before client j.op j.say (last-tried before client j (rw other at is))
+      | inl last ↦ subst (λ (x : Judged). WasJudged (asks.Swap b n k e r ∷ before) client x.op x.say) (same_Some _ j (rw last at is)) (now (both (b == client) (is_judged before b n) last))
+    ]
+  where
+    a : Attempt
+    a = record { client = b; op = n; key = k; rec = r; expected = Some e }
+
+    by : (x : Bool) → is_swapped (cond x (says.Swapped b n k r.stamp) (says.Changed b n k (record_stamp before k))) ≡ x
+    by true = refl
+    by false = refl
+
+    now : (b == client ≡ true) × (is_judged before b n ≡ true) → WasJudged (asks.Swap b n k e r ∷ before) client n (judged_answer before a)
+    now tests =
+        let made : attempt_of before (asks.Swap b n k e r) ≡ Some a = rw tests.1 refl in
+        record { attempt = a; tried = inl made; client = eqb-true b client tests.0; op = refl; applied = λ swapped. inl (made, sym (by (applies (record_after before k) a)) ∙ swapped) }
+
 module _ (p : Params) (c o : ℕ) (t : List Deed) where
   -- the course with these last three parts
   abbrev updated_course : Option Returned → Option Update → Bool → Course
@@ -144,24 +189,81 @@ module _ (p : Params) (c o : ℕ) (t : List Deed) where
   unfolding course_of
   not-updated ret same = course-same _ _ _ _ _ _ _ _ _ _ _ _ _ _ (ap (option_map kept_return) same) refl refl refl refl (none-updated (first_update (is_own c o) t)) refl
 
-  by-request : (ask : MetaAsk) (ret : Option Return) → ret ≡ return_of p c o t →
-      updated_course (option_map kept_return ret) (option_or (first_update (is_own c o) t) (passing (is_own c o) (update_by ask t))) (was_applied (ask ∷ served t) c o)
-      ≡ noted_by (note_of_update (length t + 1) (updated_by ask (served t))) c o (course_of p t c o)
-  unfolding course_of was_applied
-  by-request (asks.Update b n k r) ret same =
-      elim (cases_bool ((b == c) && (n == o))) [
+  by-attempt : (tried : Option Attempt) (ret : Option Return) → ret ≡ return_of p c o t →
+      updated_course (option_map kept_return ret) (option_or (first_update (is_own c o) t) (passing (is_own c o) (option_map (update_as t) tried))) (is_applied_own tried (served t) c o || was_applied (served t) c o)
+      ≡ noted_by (note_of_update (length t + 1) (option_map (updated_as (served t)) tried)) c o (course_of p t c o)
+  unfolding course_of
+  by-attempt (Some a) ret same =
+      elim (cases_bool ((a.client == c) && (a.op == o))) [
         | inl own ↦
-            let u : Update = record { client = b; op = n; key = k; stamp = r.stamp; step = length t + 1; is_applied = stamp_lt (record_stamp (served t) k) r.stamp } in
+            let u : Update = update_as t a in
             rw own (course-same _ _ _ _ _ _ _ _ _ _ _ _ _ _ (ap (option_map kept_return) same) refl refl refl refl (more-updated (first_update (is_own c o) t) u) refl)
         | inr other ↦ rw other (not-updated ret same)
       ]
-  by-request (asks.Read b n k) ret same = not-updated ret same
-  by-request (asks.Watch b n k s) ret same = not-updated ret same
-  by-request (asks.Olds b n k) ret same = not-updated ret same
-  by-request (asks.Forget b n k ss) ret same = not-updated ret same
+  by-attempt None ret same = not-updated ret same
+
+  or-same : (x y : Bool) → (x ≡ true → y ≡ true) → y ≡ (x || y)
+  or-same true y is = is refl
+  or-same false y is = refl
+
+  again-same : (u : Update) → first_update (is_own c o) t ≡ Some u → (ret : Option Return) → ret ≡ return_of p c o t → (x : Bool) → (x ≡ true → was_applied (served t) c o ≡ true) →
+      updated_course (option_map kept_return ret) (option_or (first_update (is_own c o) t) None) (was_applied (served t) c o) ≡ noted (Updated (length t + 1) x) (course_of p t c o)
+  unfolding course_of
+  again-same u first ret same x applied =
+      course-same _ _ _ _ _ _ _ _ _ _ _ _ _ _ (ap (option_map kept_return) same) refl refl refl refl
+      (ap (λ (f : Option Update). option_map kept_update (option_or f None)) first ∙ sym (ap (λ (f : Option Update). option_or (option_map kept_update f) (Some (record { at = length t + 1; is_applied = x }))) first))
+      (or-same x (was_applied (served t) c o) applied)
+
+  -- a swap that is answered again changes nothing
+  by-repeat : (last : Option Judged) (b n : ℕ) (ret : Option Return) → last_swap (served t) b ≡ last → ret ≡ return_of p c o t →
+      updated_course (option_map kept_return ret) (option_or (first_update (is_own c o) t) None) (was_applied (served t) c o)
+      ≡ noted_by (note_of_update (length t + 1) (answered_swap b n (repeated_answer last n))) c o (course_of p t c o)
+  by-repeat None b n ret is same = not-updated ret same
+  by-repeat (Some j) b n ret is same =
+      elim (cases_bool (j.op == n)) [
+        | inr other ↦ rw other (not-updated ret same)
+        | inl again ↦ rw again (elim (cases_bool ((b == c) && (n == o))) [
+          | inr other ↦ rw other (not-updated ret same)
+          | inl own ↦
+              let tests = both (b == c) (n == o) own in
+              let was = last-tried (served t) b j is in
+              let u = tried-first was.attempt t was.tried in
+              let client : was.attempt.client ≡ c = was.client ∙ eqb-true b c tests.0 in
+              let number : was.attempt.op ≡ o = was.op ∙ (eqb-true j.op n again ∙ eqb-true n o tests.1) in
+              let first : first_update (is_own c o) t ≡ Some u.0 = subst (λ (m : ℕ). first_update (is_own c m) t ≡ Some u.0) number (subst (λ (d : ℕ). first_update (is_own d was.attempt.op) t ≡ Some u.0) client u.1) in
+              let applied : is_swapped j.say ≡ true → was_applied (served t) c o ≡ true =
+              λ swapped. subst (λ (m : ℕ). was_applied (served t) c m ≡ true) number (subst (λ (d : ℕ). was_applied (served t) d was.attempt.op ≡ true) client (applied-was (served t) was.attempt (was.applied swapped))) in
+              rw own (again-same u.0 first ret same (is_swapped j.say) applied)
+        ])
+      ]
+
+  judged-swapped : (a : Attempt) → is_swapped (judged_answer (served t) a) ≡ applies (record_after (served t) a.key) a
+  unfolding judged_answer
+  judged-swapped a = by (applies (record_after (served t) a.key) a)
+    where
+      by : (x : Bool) → is_swapped (cond x (says.Swapped a.client a.op a.key a.rec.stamp) (says.Changed a.client a.op a.key (record_stamp (served t) a.key))) ≡ x
+      by true = refl
+      by false = refl
+
+  by-request : (ask : MetaAsk) (ret : Option Return) → ret ≡ return_of p c o t →
+      updated_course (option_map kept_return ret) (option_or (first_update (is_own c o) t) (passing (is_own c o) (update_by ask t))) (is_applied_own (attempt_of (served t) ask) (served t) c o || was_applied (served t) c o)
+      ≡ noted_by (note_of_update (length t + 1) (updated_by ask (served t))) c o (course_of p t c o)
+  unfolding service_answers
+  by-request (asks.Update b n k r) ret same = by-attempt (attempt_of (served t) (asks.Update b n k r)) ret same
+  by-request (asks.Read b n k) ret same = by-attempt None ret same
+  by-request (asks.Watch b n k s) ret same = by-attempt None ret same
+  by-request (asks.Olds b n k) ret same = by-attempt None ret same
+  by-request (asks.Forget b n k ss) ret same = by-attempt None ret same
+  by-request (asks.Swap b n k e r) ret same =
+      elim (cases_bool (is_judged (served t) b n)) [
+        | inr repeated ↦ rw repeated (by-repeat (last_swap (served t) b) b n ret refl same)
+        | inl judged ↦
+            let a : Attempt = record { client = b; op = n; key = k; rec = r; expected = Some e } in
+            rw judged (by-attempt (Some a) ret same ∙ ap (λ (x : Bool). noted_by (note_of_update (length t + 1) (Some (record { client = b; op = n; is_applied = x }))) c o (course_of p t c o)) (sym (judged-swapped a)))
+      ]
 
   updated-step : (ask : MetaAsk) → course_of p (Served ask ∷ t) c o ≡ noted_by (note_of_update (length t + 1) (updated_by ask (served t))) c o (course_of p t c o)
-  unfolding course_of served inputs_of first_made version_made first_update
+  unfolding course_of served inputs_of first_made version_made first_update was_applied
   updated-step ask = by-request ask (return_of p c o (Served ask ∷ t)) (return-same p c o (Served ask) t (reply-same p c o (Served ask) t refl (started-same c o (Served ask) t refl)))
 
 -- ---- an input that is handed over
@@ -299,7 +401,7 @@ handed-step p b n w c o cue t trace awaits =
 pub course-step : (p : Params) (d : Deed) (t : List Deed) (c o : ℕ) → IsTrace p (d ∷ t) → course_of p (d ∷ t) c o ≡ after p d t c o (course_of p t c o)
 unfolding IsTrace inputs_of first_made version_made served first_update
 course-step p Joined t c o trace = unchanged p c o Joined t refl refl refl (or-none (first_update (is_own c o) t)) refl (reply-same p c o Joined t refl (started-same c o Joined t refl))
-course-step p (Began b n a) t c o trace = unchanged p c o (Began b n a) t refl refl refl (or-none (first_update (is_own c o) t)) refl (began-reply p b n c o a t trace.0)
+course-step p (Began b n a) t c o trace = unchanged p c o (Began b n a) t refl refl refl (or-none (first_update (is_own c o) t)) refl (began-reply p b n c o a t trace.0.0)
 course-step p (Handed b n w cue) t c o trace = handed-step p b n w c o cue t trace.1 trace.0.0
 course-step p (Served ask) t c o trace = updated-step p c o t ask
 course-step p (Granted ask) t c o trace = unchanged p c o (Granted ask) t refl refl refl (or-none (first_update (is_own c o) t)) refl (reply-same p c o (Granted ask) t refl (started-same c o (Granted ask) t refl))

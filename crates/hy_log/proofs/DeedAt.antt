@@ -14,28 +14,29 @@ use Rattle.hy_record.specs.declared.turn.Cue.{Cue}
 use Rattle.hy_record.specs.declared.turn.Out.{Out}
 use Rattle.hy_record.specs.declared.turn.Out.TheVariants as outs
 use Rattle.hy_record.specs.Record.{RecordValue}
-use Rattle.hy_record.specs.Stamp.{stamp_lt}
+use Rattle.hy_record.specs.Stamp.{Timestamp, stamp_lt}
 use Rattle.hy_meta.specs.declared.watcher.Watcher.{Watcher}
-use Rattle.hy_meta.specs.Service.{record_stamp}
-use Rattle.hy_meta.specs.Meta.{service_answers}
+use Rattle.hy_meta.specs.Service.{Attempt, is_judged, applies, record_after, record_stamp}
+use Rattle.hy_meta.specs.Meta.{judged_answer, Judged, last_swap, repeated_answer, fired_by, service_answers}
 use Rattle.hy_meta.specs.Watches.{fired, fired_watches}
 use Rattle.hy_meta.proofs.Rising.{cases_bool, both}
-use Rattle.hy_protocol.specs.Operations.{sends_of, replied}
+use Rattle.hy_protocol.specs.Operations.{key_of, sends_of, replied}
+use Rattle.hy_protocol.specs.Read.{Version, version_of}
 use Rattle.hy_trace.specs.Deeds.{Params, Deed, Joined, Began, Handed, Served, Granted, Stopped, Nothing, Start, served, inputs_of, start_of, start_at, reply_of}
 use Rattle.hy_trace.specs.History.{Return, return_of}
 use Rattle.hy_trace.specs.Messages.{Message, Ask, Say, Request, Answer, message_of, sent_at, sent_after, IsSent, IsSentAt}
-use Rattle.hy_trace.specs.Points.{Update, update_at, passing, first_update, is_own}
+use Rattle.hy_trace.specs.Points.{Update, update_at, passing, first_update, is_own, version_made}
 use Rattle.hy_trace.specs.Trace.{Fits, IsTrace}
 use Rattle.hy_trace.proofs.Growth.{or-cases, all-among, start-keeps}
 use Rattle.hy_trace.proofs.Steps.{has-replied, replied-has}
 use Rattle.hy_theorems.proofs.Invariant.{begins-empty, trace-holds}
-use Rattle.hy_theorems.proofs.Meaning.{IsBegun}
+use Rattle.hy_theorems.proofs.Meaning.{IsBegun, ask_with}
 use Rattle.hy_theorems.proofs.ReadPoints.{has-at}
 use Rattle.hy_theorems.proofs.RealTime.{returned-within, return-reply}
 use Rattle.hy_theorems.proofs.TopAt.{first-served, serves-or-not}
 use Rattle.hy_theorems.proofs.Writes.{all-mapped}
 use Rattle.hy_log.proofs.Coursing.{never-replied, no-reply}
-use Rattle.hy_log.proofs.FirstMade.{update-is, passes-own}
+use Rattle.hy_log.proofs.FirstMade.{tried-by, passes-own, version-sent}
 
 -- the deed of the step
 unfoldable pub deed_at : List Deed → ℕ → Option Deed
@@ -59,6 +60,8 @@ AnswersRead d (Say (says.Kept c o k s)) = Unit {0}
 AnswersRead d (Say (says.Fired c o k s)) = Unit {0}
 AnswersRead d (Say (says.OldList c o k ss)) = Unit {0}
 AnswersRead d (Say (says.Forgot c o k)) = Unit {0}
+AnswersRead d (Say (says.Swapped c o k s)) = Unit {0}
+AnswersRead d (Say (says.Changed c o k s)) = Unit {0}
 AnswersRead d (Ask ask) = Unit {0}
 AnswersRead d (Request ask) = Unit {0}
 AnswersRead d (Answer reply) = Unit {0}
@@ -70,6 +73,36 @@ out-answers d (outs.Cloud ask) = tt
 fired-answers : (d : Deed) (ws : List Watcher) → AllByRecursion (AnswersRead d) (map Say (map fired ws))
 fired-answers d [] = tt
 fired-answers d (w ∷ ws) = (tt, fired-answers d ws)
+
+judged-answers : (d : Deed) (requests : List MetaAsk) (a : Attempt) → AnswersRead d (Say (judged_answer requests a))
+unfolding judged_answer
+judged-answers d requests a = elim (cases_bool (applies (record_after requests a.key) a)) [ inl applied ↦ rw applied tt | inr refused ↦ rw refused tt ]
+
+fired-by-answers : (d : Deed) (requests : List MetaAsk) (a : Attempt) → AllByRecursion (AnswersRead d) (map Say (fired_by requests a))
+fired-by-answers d requests a =
+    elim (cases_bool (applies (record_after requests a.key) a)) [
+      | inl applied ↦ rw applied (fired-answers d (fired_watches requests a.key a.rec.stamp))
+      | inr refused ↦ rw refused tt
+    ]
+
+-- what the last swap of a client was answered that was judged
+last-answers : (d : Deed) (requests : List MetaAsk) (client : ℕ) (j : Judged) → last_swap requests client ≡ Some j → AnswersRead d (Say j.say)
+unfolding last_swap
+last-answers d [] client j is = absurd (none-some j is)
+last-answers d (asks.Read c o k ∷ before) client j is = last-answers d before client j is
+last-answers d (asks.Update c o k r ∷ before) client j is = last-answers d before client j is
+last-answers d (asks.Watch c o k s ∷ before) client j is = last-answers d before client j is
+last-answers d (asks.Olds c o k ∷ before) client j is = last-answers d before client j is
+last-answers d (asks.Forget c o k ss ∷ before) client j is = last-answers d before client j is
+last-answers d (asks.Swap c o k e r ∷ before) client j is =
+    elim (cases_bool (c == client && is_judged before c o)) [
+      | inr other ↦ last-answers d before client j (rw other at is)
+      | inl last ↦ subst (λ (x : Judged). AnswersRead d (Say x.say)) (same_Some _ j (rw last at is)) (judged-answers d before (record { client = c; op = o; key = k; rec = r; expected = Some e }))
+    ]
+
+repeat-answers : (d : Deed) (requests : List MetaAsk) (client op : ℕ) (last : Option Judged) → last_swap requests client ≡ last → AllByRecursion (AnswersRead d) (map Say (repeated_answer last op))
+repeat-answers d requests client op None is = tt
+repeat-answers d requests client op (Some j) is = elim (cases_bool (j.op == op)) [ inl same ↦ rw same (last-answers d requests client j is, tt) | inr other ↦ rw other tt ]
 
 service-answers : (t : List Deed) (ask : MetaAsk) → AllByRecursion (AnswersRead (Served ask)) (map Say (service_answers (served t) ask))
 unfolding service_answers
@@ -83,6 +116,12 @@ service-answers t (asks.Watch c o k s) =
     elim (cases_bool (stamp_lt s (record_stamp (served t) k))) [
       | inl due ↦ rw due (tt, tt)
       | inr waits ↦ rw waits tt
+    ]
+service-answers t (asks.Swap c o k e r) =
+    let a : Attempt = record { client = c; op = o; key = k; rec = r; expected = Some e } in
+    elim (cases_bool (is_judged (served t) c o)) [
+      | inl judged ↦ rw judged (judged-answers (Served (asks.Swap c o k e r)) (served t) a, fired-by-answers (Served (asks.Swap c o k e r)) (served t) a)
+      | inr repeated ↦ rw repeated (repeat-answers (Served (asks.Swap c o k e r)) (served t) c o (last_swap (served t) c) refl)
     ]
 service-answers t (asks.Olds c o k) = (tt, tt)
 service-answers t (asks.Forget c o k ss) = (tt, tt)
@@ -136,21 +175,24 @@ begin-deed c o (d ∷ t) s is =
           (deed-here d t (length s.before + 1) (omega (arith, count)) ∙ ap Some here.0, omega (arith, count))
     ]
 
-pub update-deed : (c o : ℕ) (t : List Deed) (u : Update) → first_update (is_own c o) t ≡ Some u → (k : List ℕ) × (r : RecordValue) × (deed_at t u.step ≡ Some (Served (asks.Update c o k r)))
+-- an update is served at its step, or a swap is judged there
+pub record IsTriedAt (c o : ℕ) (t : List Deed) (step : ℕ) : Type 0 where
+  pub attempt : Attempt
+  pub client : attempt.client ≡ c
+  pub op : attempt.op ≡ o
+  pub deed : deed_at t step ≡ Some (Served (ask_with attempt attempt.expected))
+
+pub update-deed : (c o : ℕ) (t : List Deed) (u : Update) → first_update (is_own c o) t ≡ Some u → IsTriedAt c o t u.step
 unfolding first_update
 update-deed c o [] u is = absurd (none-some u is)
 update-deed c o (d ∷ t) u is =
     elim (or-cases (first_update (is_own c o) t) (passing (is_own c o) (update_at d t)) u is) [
-      | inl was ↦ (let before = update-deed c o t u was in (before.0, before.1, deed-earlier d t u.step (first-served (is_own c o) t u was).0.within ∙ before.2))
+      | inl was ↦ (let before = update-deed c o t u was in record { attempt = before.attempt; client = before.client; op = before.op; deed = deed-earlier d t u.step (first-served (is_own c o) t u was).0.within ∙ before.deed })
       | inr now ↦ (let own = passes-own c o (update_at d t) u now.1 in elim (serves-or-not d t) [
         | inr quiet ↦ absurd (none-some u (sym quiet.1 ∙ own.0))
         | inl serves ↦
-            let x = update-is serves.0 t u (ap (λ (y : Deed). update_at y t) (sym serves.1) ∙ own.0) in
-            let parts = both (u.client == c) (u.op == o) own.1 in
-            let client : x.0 ≡ c = ap (λ (v : Update). v.client) x.5 ∙ eqb-true u.client c parts.0 in
-            let number : x.1 ≡ o = ap (λ (v : Update). v.op) x.5 ∙ eqb-true u.op o parts.1 in
-            let step = ap (λ (v : Update). v.step) x.5 in
-            (x.2, x.3, deed-here d t u.step (omega (arith, step)) ∙ ap Some (serves.1 ∙ (ap Served x.4 ∙ (ap (λ (b : ℕ). Served (asks.Update b x.1 x.2 x.3)) client ∙ ap (λ (n : ℕ). Served (asks.Update c n x.2 x.3)) number))))
+            let x = tried-by c o serves.0 t u (ap (λ (y : Deed). update_at y t) (sym serves.1) ∙ own.0) own.1 in
+            record { attempt = x.attempt; client = x.client; op = x.op; deed = deed-here d t u.step x.step ∙ ap Some (serves.1 ∙ ap Served x.ask_is) }
       ])
     ]
 
@@ -227,3 +269,47 @@ return-late p c o (d ∷ t) r s trace is began =
     by_reply : (q : Option Reply) → option_map (λ reply. record { at = length t + 1; reply = reply }) q ≡ Some r → length s.before + 1 ≤ r.at
     by_reply None e = absurd (none-some r e)
     by_reply (Some reply) e = (let at = ap (λ (x : Return). x.at) (same_Some (record { at = length t + 1; reply = reply }) r e) in let le = (begin-deed c o (d ∷ t) s began).1 in omega (arith, at, le))
+
+-- ---- whose request is served at a step
+
+abbrev pub asker_of : MetaAsk → ℕ × ℕ
+asker_of (asks.Read c o k) = (c, o)
+asker_of (asks.Update c o k r) = (c, o)
+asker_of (asks.Watch c o k s) = (c, o)
+asker_of (asks.Olds c o k) = (c, o)
+asker_of (asks.Forget c o k ss) = (c, o)
+asker_of (asks.Swap c o k e r) = (c, o)
+
+-- a request of the operation is served at the step
+pub record AsksAt (t : List Deed) (step c o : ℕ) : Type 0 where
+  pub ask : MetaAsk
+  pub deed : deed_at t step ≡ Some (Served ask)
+  pub asker : asker_of ask ≡ (c, o)
+
+pub asks-once : (t : List Deed) (n m c o b k : ℕ) → AsksAt t n c o → AsksAt t m b k → n ≡ m → (c ≡ b) × (o ≡ k)
+asks-once t n m c o b k first second same =
+    let deed : Served first.ask ≡ Served second.ask = same_Some (Served first.ask) (Served second.ask) (sym first.deed ∙ (ap (deed_at t) same ∙ second.deed)) in
+    let one : (c, o) ≡ (b, k) = sym first.asker ∙ (ap (asker_or first.ask) deed ∙ second.asker) in
+    (ap (λ (x : ℕ × ℕ). x.0) one, ap (λ (x : ℕ × ℕ). x.1) one)
+  where
+    asker_or : MetaAsk → Deed → ℕ × ℕ
+    asker_or other (Served ask) = asker_of ask
+    asker_or other Joined = asker_of other
+    asker_or other (Began b n a) = asker_of other
+    asker_or other (Handed b n w cue) = asker_of other
+    asker_or other (Granted ask) = asker_of other
+    asker_or other (Stopped b) = asker_of other
+    asker_or other Nothing = asker_of other
+
+tried-asker : (a : Attempt) (e : Option Timestamp) → asker_of (ask_with a e) ≡ (a.client, a.op)
+tried-asker a None = refl
+tried-asker a (Some e) = refl
+
+pub update-asks : (c o : ℕ) (t : List Deed) (u : Update) → first_update (is_own c o) t ≡ Some u → AsksAt t u.step c o
+update-asks c o t u first =
+    let x = update-deed c o t u first in
+    record { ask = ask_with x.attempt x.attempt.expected; deed = x.deed; asker = tried-asker x.attempt x.attempt.expected ∙ (ap (λ (b : ℕ). (b, x.attempt.op)) x.client ∙ ap (λ (n : ℕ). (c, n)) x.op) }
+
+pub version-asks : (p : Params) (c o : ℕ) (t : List Deed) → IsTrace p t → (s : Start) → start_of c o t ≡ Some s → (v : Version) → version_of (inputs_of c o t) ≡ Some v → AsksAt t (version_made c o t) c o
+version-asks p c o t trace s began v is =
+    record { ask = asks.Read c o (key_of s.action); deed = read-deed p t (version_made c o t) c o (key_of s.action) v.rec (version-sent p c o t trace s began v is); asker = refl }

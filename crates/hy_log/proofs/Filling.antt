@@ -14,7 +14,7 @@ use Rattle.hy_record.proofs.Order.{key_eq-true, key_eq-same}
 use Rattle.hy_meta.proofs.Rising.{cases_bool}
 use Rattle.hy_protocol.specs.Operations.{key_of}
 use Rattle.hy_order.specs.declared.operation.Operation.{Operation}
-use Rattle.hy_order.specs.ReportRanges.{register_key}
+use Rattle.hy_order.specs.Keys.{register_key}
 use Rattle.hy_trace.specs.Deeds.{Params, Deed, Joined, Began, Handed, Served, Granted, Stopped, Nothing, start_of}
 use Rattle.hy_trace.specs.History.{Begun, begun_of, operation_of}
 use Rattle.hy_trace.specs.Order.{Mark, mark_by, mark_of, marks_of}
@@ -140,6 +140,7 @@ module _ (p : Params) (t : List Deed) (trace : IsTrace p t) (courses : List (Lis
   one-more b n keys rest (asked.Put k value) action number began so_far = one-named b n keys rest (ap register_key action ∙ ap (λ (x : Action). Some (key_of x)) (sym action)) number began so_far
   one-more b n keys rest (asked.Get k) action number began so_far = one-named b n keys rest (ap register_key action ∙ ap (λ (x : Action). Some (key_of x)) (sym action)) number began so_far
   one-more b n keys rest (asked.Delete k) action number began so_far = one-named b n keys rest (ap register_key action ∙ ap (λ (x : Action). Some (key_of x)) (sym action)) number began so_far
+  one-more b n keys rest (asked.Swap k e v) action number began so_far = one-named b n keys rest (ap register_key action ∙ ap (λ (x : Action). Some (key_of x)) (sym action)) number began so_far
   one-more b n keys rest (asked.Collect k) action number began so_far =
       ap (λ (x : Action). places_at (with_place (register_key x) (course_place courses (start_line b)) n keys) key) action ∙ so_far
       ∙ ap (λ (o : Option Mark). placed (cons_option o rest)) (sym (unlisted p t key b k action))

@@ -8,18 +8,18 @@ use Rattle.hy_record.specs.declared.action.Action.{Action}
 use Rattle.hy_record.specs.declared.action.Reply.{Reply}
 use Rattle.hy_record.specs.declared.action.Reply.TheVariants as told
 use Rattle.hy_record.specs.declared.message.MetaAsk.{MetaAsk}
-use Rattle.hy_record.specs.declared.message.MetaAsk.TheVariants as asks
 use Rattle.hy_record.specs.declared.message.MetaSay.TheVariants as says
 use Rattle.hy_record.specs.declared.turn.Cue.{Cue}
 use Rattle.hy_record.specs.Record.{RecordValue}
 use Rattle.hy_record.specs.Stamp.{Timestamp, stamp_lt}
-use Rattle.hy_meta.specs.Service.{stamp_of_record}
+use Rattle.hy_meta.specs.Service.{Attempt, attempt_of, stamp_of_record}
 use Rattle.hy_meta.proofs.Rising.{cases_bool, both}
+use Rattle.hy_protocol.specs.declared.plan.PutPlan.{PutPlan}
 use Rattle.hy_protocol.specs.Inputs.{has_of}
 use Rattle.hy_protocol.specs.Operations.{key_of, write_plan, replied}
 use Rattle.hy_protocol.specs.Read.{Version, version_of, newer_version}
 use Rattle.hy_protocol.specs.Write.{first_has, own_stamp, write_reply}
-use Rattle.hy_trace.specs.Deeds.{Params, Deed, Joined, Began, Handed, Served, Granted, Stopped, Nothing, Start, inputs_of, start_of, reply_of}
+use Rattle.hy_trace.specs.Deeds.{Params, Deed, Joined, Began, Handed, Served, Granted, Stopped, Nothing, Start, served, inputs_of, start_of, reply_of}
 use Rattle.hy_trace.specs.History.{Return, return_of}
 use Rattle.hy_trace.specs.Messages.{Ask, Say, IsSent, IsSentAt}
 use Rattle.hy_trace.specs.Order.{is_done}
@@ -28,15 +28,16 @@ use Rattle.hy_trace.specs.Trace.{Awaits, Fits, IsMade, IsTrace}
 use Rattle.hy_trace.proofs.Growth.{or-first, or-second, or-cases, start-keeps, start-same, inputs-step}
 use Rattle.hy_trace.proofs.Heard.{has-told, inputs-heard, said-answer}
 use Rattle.hy_trace.proofs.Steps.{has-replied}
-use Rattle.hy_theorems.proofs.Apart.{own-has, replied-write}
-use Rattle.hy_theorems.proofs.Invariant.{trace-holds}
+use Rattle.hy_theorems.specs.Writing.{Change, Puts, Deletes, Swaps, change_value, change_expected, change_action}
+use Rattle.hy_theorems.proofs.Apart.{own-has, change_reply, replied-write}
+use Rattle.hy_theorems.proofs.Invariant.{attempt-means, trace-holds}
 use Rattle.hy_theorems.proofs.Marks.{write-done}
-use Rattle.hy_theorems.proofs.Meaning.{IsUpdating, IsUpdated, write_action}
+use Rattle.hy_theorems.proofs.Meaning.{IsUpdating, IsUpdated, ask_with, attempt-ask}
 use Rattle.hy_theorems.proofs.Points.{made-has, made-step, version-before}
 use Rattle.hy_theorems.proofs.ReadPoints.{has-at}
 use Rattle.hy_theorems.proofs.RealTime.{return-reply}
 use Rattle.hy_theorems.proofs.Replies.{done-heard}
-use Rattle.hy_theorems.proofs.TopAt.{update_now, serves-or-not, first-served, first-keeps, asked-first}
+use Rattle.hy_theorems.proofs.TopAt.{mapped-is, serves-or-not, first-served, first-keeps, tried-first}
 use Rattle.hy_theorems.proofs.Writes.{update-own}
 use Rattle.hy_log.specs.Courses.{earlier_made, first_made}
 
@@ -145,12 +146,27 @@ pub record IsToldBefore (t : List Deed) (c o step : ℕ) : Type 0 where
   pub told_ : first_has (inputs_of c o t) ≡ Some held
   pub sooner : first_made c o t < step
 
-pub update-is : (ask : MetaAsk) (t : List Deed) (u : Update) → update_by ask t ≡ Some u → (c o : ℕ) × (k : List ℕ) × (r : RecordValue) × (ask ≡ asks.Update c o k r) × (update_now c o k r t ≡ u)
-update-is (asks.Update c o k r) t u is = (c, o, k, r, refl, same_Some (update_now c o k r t) u is)
-update-is (asks.Read c o k) t u is = absurd (none-some u is)
-update-is (asks.Watch c o k s) t u is = absurd (none-some u is)
-update-is (asks.Olds c o k) t u is = absurd (none-some u is)
-update-is (asks.Forget c o k ss) t u is = absurd (none-some u is)
+-- an update that is served is that of an attempt
+pub record IsTriedBy (c o : ℕ) (ask : MetaAsk) (t : List Deed) (u : Update) : Type 0 where
+  pub attempt : Attempt
+  pub tried : attempt_of (served t) ask ≡ Some attempt
+  pub ask_is : ask ≡ ask_with attempt attempt.expected
+  pub client : attempt.client ≡ c
+  pub op : attempt.op ≡ o
+  pub step : u.step ≡ length t + 1
+
+pub tried-by : (c o : ℕ) (ask : MetaAsk) (t : List Deed) (u : Update) → update_by ask t ≡ Some u → is_own c o u ≡ true → IsTriedBy c o ask t u
+tried-by c o ask t u is own =
+    let x = mapped-is t (attempt_of (served t) ask) u is in
+    let parts = both (u.client == c) (u.op == o) own in
+    record {
+      attempt = x.0;
+      tried = x.1;
+      ask_is = attempt-ask (served t) ask x.0 x.1;
+      client = ap (λ (v : Update). v.client) x.2 ∙ eqb-true u.client c parts.0;
+      op = ap (λ (v : Update). v.op) x.2 ∙ eqb-true u.op o parts.1;
+      step = sym (ap (λ (v : Update). v.step) x.2);
+    }
 
 pub passes-own : (c o : ℕ) (v : Option Update) (u : Update) → passing (is_own c o) v ≡ Some u → (v ≡ Some u) × (is_own c o u ≡ true)
 passes-own c o None u is = absurd (none-some u is)
@@ -177,17 +193,15 @@ told-before p c o (d ∷ t) trace u is =
 
     served_now : (ask : MetaAsk) → d ≡ Served ask → update_at d t ≡ Some u → is_own c o u ≡ true → IsToldBefore (d ∷ t) c o u.step
     served_now ask serves at own =
-        (let x = update-is ask t u (ap (λ (y : Deed). update_at y t) (sym serves) ∙ at) in
-        let parts = both (u.client == c) (u.op == o) own in
-        let client : x.0 ≡ c = ap (λ (v : Update). v.client) x.5 ∙ eqb-true u.client c parts.0 in
-        let number : x.1 ≡ o = ap (λ (v : Update). v.op) x.5 ∙ eqb-true u.op o parts.1 in
-        let sent : IsSent p t (Ask (asks.Update x.0 x.1 x.2 x.3)) = subst (λ (a : MetaAsk). IsSent p t (Ask a)) x.4 (subst (Fits p t) serves trace.0) in
-        let meant : IsUpdating p x.0 x.1 x.2 x.3 t = (trace-holds p t trace.1).said (Ask (asks.Update x.0 x.1 x.2 x.3)) sent in
-        let mine : IsUpdating p c o x.2 x.3 t = subst (λ (b : ℕ). IsUpdating p b o x.2 x.3 t) client (subst (λ (n : ℕ). IsUpdating p x.0 n x.2 x.3 t) number meant) in
-        let plan = write_plan p.f p.k c o x.2 mine.value in
-        let has = own-has plan (inputs_of c o t) x.3.stamp (update-own plan (inputs_of c o t) x.3 mine.update) in
+        (let x = tried-by c o ask t u (ap (λ (y : Deed). update_at y t) (sym serves) ∙ at) own in
+        let a = x.attempt in
+        let sent : IsSent p t (Ask (ask_with a a.expected)) = subst (λ (q : MetaAsk). IsSent p t (Ask q)) x.ask_is (subst (Fits p t) serves trace.0) in
+        let meant : IsUpdating p a.client a.op a.key a.expected a.rec t = attempt-means p t a a.expected refl ((trace-holds p t trace.1).said (Ask (ask_with a a.expected)) sent) in
+        let mine : IsUpdating p c o a.key a.expected a.rec t = subst (λ (b : ℕ). IsUpdating p b o a.key a.expected a.rec t) x.client (subst (λ (n : ℕ). IsUpdating p a.client n a.key a.expected a.rec t) x.op meant) in
+        let plan = write_plan p.f p.k c o a.key (change_value mine.change) in
+        let has = own-has plan (inputs_of c o t) a.rec.stamp (update-own plan (inputs_of c o t) a.rec mine.update) in
         let kept = first-kept p c o d t has.0 trace.0 has.1 in
-        let step = ap (λ (v : Update). v.step) x.5 in
+        let step = x.step in
         let within = first-within p c o t trace.1 in
         record { held = has.0; told_ = kept.0; sooner = rw kept.1 (omega (arith, step, within)) })
 
@@ -211,19 +225,25 @@ first-returned p c o (d ∷ t) r trace is =
     by_reply None e = absurd (none-some r e)
     by_reply (Some reply) e = (let at = ap (λ (x : Return). x.at) (same_Some (record { at = length t + 1; reply = reply }) r e) in let le = first-within p c o (d ∷ t) trace in omega (arith, at, le))
 
--- where a write has a timestamp, an update of it was served before it returned
-pub updated-before : (p : Params) (c o : ℕ) (t : List Deed) → IsTrace p t → (key : List ℕ) (value : Option (List ℕ)) (s : Start) → start_of c o t ≡ Some s → s.action ≡ write_action key value
-    → (x : Timestamp) → own_stamp (write_plan p.f p.k c o key value) (inputs_of c o t) ≡ Some x → (r : Return) → return_of p c o t ≡ Some r → (u : Update) × (first_update (is_own c o) t ≡ Some u) × (u.step ≤ r.at)
+-- a put or a delete replies as a write
+pub free-reply : (plan : PutPlan) (change : Change) (inputs : List Cue) → change_expected change ≡ None → change_reply plan change inputs ≡ write_reply plan inputs
+free-reply plan (Puts v) inputs free = refl
+free-reply plan Deletes inputs free = refl
+free-reply plan (Swaps e v) inputs free = absurd (none-some e (sym free))
+
+-- where a put or a delete has a timestamp, an update of it was served before it returned
+pub updated-before : (p : Params) (c o : ℕ) (t : List Deed) → IsTrace p t → (key : List ℕ) (change : Change) → change_expected change ≡ None → (s : Start) → start_of c o t ≡ Some s → s.action ≡ change_action key change
+    → (x : Timestamp) → own_stamp (write_plan p.f p.k c o key (change_value change)) (inputs_of c o t) ≡ Some x → (r : Return) → return_of p c o t ≡ Some r → (u : Update) × (first_update (is_own c o) t ≡ Some u) × (u.step ≤ r.at)
 unfolding IsTrace return_of
-updated-before p c o [] trace key value s began action x own r is = absurd (none-some r is)
-updated-before p c o (d ∷ t) trace key value s began action x own r is =
+updated-before p c o [] trace key change free s began action x own r is = absurd (none-some r is)
+updated-before p c o (d ∷ t) trace key change free s began action x own r is =
     elim (or-cases (return_of p c o t) (option_map (λ reply. record { at = length t + 1; reply = reply }) (reply_of p c o (d ∷ t))) r is) [
       | inl was ↦
           let h = return-reply p c o t r trace.1 was in
           let start_is : h.start ≡ s = same_Some h.start s (sym (start-keeps c o d t h.start h.began) ∙ began) in
           elim (inputs-step p c o d t trace.0) [
             | inl same ↦
-                let before = updated-before p c o t trace.1 key value h.start h.began (ap (λ (y : Start). y.action) start_is ∙ action) x (ap (own_stamp (write_plan p.f p.k c o key value)) (sym same) ∙ own) r was in
+                let before = updated-before p c o t trace.1 key change free h.start h.began (ap (λ (y : Start). y.action) start_is ∙ action) x (ap (own_stamp (write_plan p.f p.k c o key (change_value change))) (sym same) ∙ own) r was in
                 (before.0, first-keeps (is_own c o) d t before.0 before.1, before.2)
             | inr one ↦
                 let same = start-same c o t one.1.start h.start one.1.began h.began in
@@ -236,11 +256,11 @@ updated-before p c o (d ∷ t) trace key value s began action x own r is =
     by_reply None reply_is e = absurd (none-some r e)
     by_reply (Some reply) reply_is e =
         (let at = ap (λ (y : Return). y.at) (same_Some (record { at = length t + 1; reply = reply }) r e) in
-        let plan = write_plan p.f p.k c o key value in
+        let plan = write_plan p.f p.k c o key (change_value change) in
         let inputs = inputs_of c o (d ∷ t) in
         let h = has-replied p c o (d ∷ t) reply reply_is in
         let start_is : h.start ≡ s = same_Some h.start s (sym h.began ∙ began) in
-        let replies : write_reply plan inputs ≡ Some reply = sym (replied-write p c o key value inputs) ∙ (ap (λ (a : Action). replied p.f p.k c o a inputs) (sym (ap (λ (y : Start). y.action) start_is ∙ action)) ∙ h.replies) in
+        let replies : write_reply plan inputs ≡ Some reply = sym (replied-write p c o key change inputs ∙ free-reply plan change inputs free) ∙ (ap (λ (a : Action). replied p.f p.k c o a inputs) (sym (ap (λ (y : Start). y.action) start_is ∙ action)) ∙ h.replies) in
         let done : told.Done x ≡ reply = write-done plan inputs x reply own replies in
         let heard = done-heard plan inputs reply replies (ap is_done (sym done)) in
         let b = inputs-heard p c o heard.0 (d ∷ t) trace heard.1 in
@@ -249,9 +269,10 @@ updated-before p c o (d ∷ t) trace key value s began action x own r is =
           | inl applied ↦ (trace-holds p (d ∷ t) trace).said (Say (says.Applied c o (key_of b.start.action) said.0)) applied
           | inr kept ↦ (trace-holds p (d ∷ t) trace).said (Say (says.Kept c o (key_of b.start.action) said.0)) kept
         ] in
-        let u = asked-first c o (key_of b.start.action) updated.0 (d ∷ t) updated.1 in
-        let within = (first-served (is_own c o) (d ∷ t) u.0 u.1).0.within in
-        (u.0, u.1, omega (arith, at, within)))
+        let u = tried-first updated.0 (d ∷ t) updated.1 in
+        let first : first_update (is_own c o) (d ∷ t) ≡ Some u.0 = subst (λ (n : ℕ). first_update (is_own c n) (d ∷ t) ≡ Some u.0) updated.2.1 (subst (λ (b : ℕ). first_update (is_own b updated.0.op) (d ∷ t) ≡ Some u.0) updated.2.0 u.1) in
+        let within = (first-served (is_own c o) (d ∷ t) u.0 first).0.within in
+        (u.0, first, omega (arith, at, within)))
 
 -- a version after one input more is the one that the input tells, made when that was, or the one before
 newest : (made : ℕ) (cue : Cue) (inputs : List Cue) (v : Version) (P : Option RecordValue → ℕ → Type 0) (old : ℕ) → version_of (cue ∷ inputs) ≡ Some v → ((r : Option RecordValue) → has_of cue ≡ Some r → P r made)
@@ -268,6 +289,26 @@ newest made cue inputs v P old is new was = by_both (version_of inputs) (has_of 
           | inl above ↦ rw above (subst (λ (x : Version). P x.rec made) (same_Some (record { rec = r; since = [] }) v (rw above at e)) (new r has_is))
           | inr not_above ↦ rw not_above (subst (λ (x : Version). P x.rec old) (same_Some (record { rec = u.rec; since = cue ∷ u.since }) v (rw not_above at e)) (was u o_is))
         ]
+
+-- where the record was told, there is a version
+pub has-version : (inputs : List Cue) (held : Option RecordValue) → first_has inputs ≡ Some held → (v : Version) × (version_of inputs ≡ Some v)
+unfolding first_has version_of
+has-version [] held is = absurd (none-some held is)
+has-version (cue ∷ inputs) held is =
+    elim (or-cases (first_has inputs) (has_of cue) held is) [
+      | inl was ↦ (let v = has-version inputs held was in by_version v.0 (has_of cue) (version_of inputs) v.1)
+      | inr now ↦ by_has now.1 (version_of inputs)
+    ]
+  where
+    by_version : (u : Version) (has : Option (Option RecordValue)) (o : Option Version) → o ≡ Some u → (v : Version) × (newer_version o cue has ≡ Some v)
+    by_version u None None is_ = absurd (none-some u is_)
+    by_version u (Some r) None is_ = (record { rec = r; since = [] }, refl)
+    by_version u None (Some w) is_ = (_, refl)
+    by_version u (Some r) (Some w) is_ = elim (cases_bool (stamp_lt (stamp_of_record w.rec) (stamp_of_record r))) [ inl above ↦ rw above (_, refl) | inr upto ↦ rw upto (_, refl) ]
+
+    by_has : has_of cue ≡ Some held → (o : Option Version) → (v : Version) × (newer_version o cue (has_of cue) ≡ Some v)
+    by_has tells None = (record { rec = held; since = [] }, ap (newer_version None cue) tells)
+    by_has tells (Some w) = (let x = by_version w (Some held) (Some w) refl in (x.0, ap (newer_version (Some w) cue) tells ∙ x.1))
 
 none-version : (c o : ℕ) (v : Version) → version_of (inputs_of c o []) ≡ Some v → ⊥
 unfolding inputs_of version_of

@@ -1,4 +1,3 @@
-pub mod Askers
 pub mod Coursing
 pub mod EntryLemmas
 pub mod Filling

@@ -11,7 +11,7 @@ use Rattle.std.proofs.lemmas.Map.Keys.{IsDistinct-from_sorted}
 use Rattle.hy_order.specs.declared.operation.Operation.{Operation}
 use Rattle.hy_order.specs.declared.order.Order.{Order}
 use Rattle.hy_order.specs.Keys.{insert_key, sorted_keys}
-use Rattle.hy_order.specs.ReportRanges.{register_key, register_keys}
+use Rattle.hy_order.specs.Keys.{register_key, register_keys}
 use Rattle.hy_order.proofs.DueKeys.{due-there, due-absent}
 use Rattle.hy_trace.specs.Deeds.{Params, Deed}
 use Rattle.hy_trace.specs.History.{Begun, begun_of, operation_of, history_of}

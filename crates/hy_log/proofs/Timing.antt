@@ -99,6 +99,7 @@ module _ (p : Params) (t : List Deed) (n : ℕ) (b : Begun) where
   moments-by (asked.Delete key) = begun-same key acts.Delete _ _ _ _ _ _ write-ask-is (set-is key None) end-is
   moments-by (asked.Get key) = begun-same key acts.Get _ _ None None _ _ read-ask-is refl end-is
   moments-by (asked.Collect key) = refl
+  moments-by (asked.Swap key expected value) = refl
 
 timed-operations : (p : Params) (t : List Deed) (courses : List (List Course)) (number : ℕ) (ops : List Begun) → AreCourses p t courses → IsNumberedFrom number (map (operation_of p t) ops) →
     moments_from courses number (map start_line ops) ≡ all_moments p t ops

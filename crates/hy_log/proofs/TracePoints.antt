@@ -9,7 +9,7 @@ use Rattle.hy_record.specs.declared.action.Action.{Action}
 use Rattle.hy_record.specs.declared.action.Action.TheVariants as asked
 use Rattle.hy_record.specs.declared.message.MetaAsk.TheVariants as asks
 use Rattle.hy_record.specs.Stamp.{Timestamp}
-use Rattle.hy_meta.specs.Service.{stamp_of_record}
+use Rattle.hy_meta.specs.Service.{Attempt, stamp_of_record}
 use Rattle.hy_protocol.specs.Operations.{key_of, write_plan}
 use Rattle.hy_protocol.specs.Read.{version_of}
 use Rattle.hy_protocol.specs.Write.{first_has, own_stamp}
@@ -31,10 +31,12 @@ use Rattle.hy_trace.specs.Points.{Update, first_update, is_own, version_made}
 use Rattle.hy_trace.specs.Trace.{IsTrace}
 use Rattle.hy_theorems.proofs.Beginnings.{AreOthers, IsAmongBegun, begun-are, begun-in}
 use Rattle.hy_theorems.proofs.Listing as listing
+use Rattle.hy_theorems.proofs.Meaning.{ask_with}
+use Rattle.hy_theorems.specs.Writing.{change_value}
 use Rattle.hy_theorems.proofs.TopAt.{top_at}
 use Rattle.hy_log.specs.declared.moment.Moment.{Moment}
 use Rattle.hy_log.specs.Courses.{first_made, version_stamp}
-use Rattle.hy_log.specs.Points.{moment, point_at, those_told, step_cmp, write_ask, read_ask, set_with, write_set, return_end, begun_with, moments_by, moments_of, all_moments, points_of}
+use Rattle.hy_log.specs.Points.{moment, point_at, those_told, step_cmp, write_ask, read_ask, set_with, write_set, return_end, begun_with, moments_by, moments_of, all_moments, points_of, HasNoSwaps}
 use Rattle.hy_log.proofs.DeedAt.{deed_at, read-deed, begin-deed, update-deed, end-deed}
 use Rattle.hy_log.proofs.FirstMade.{first-sent, version-sent}
 use Rattle.hy_log.proofs.Timing.{steps-total}
@@ -161,6 +163,7 @@ module _ (p : Params) (t : List Deed) (b : Begun) where
       let run = run_with p t b key acts.Get (version_reading p t b) None in
       (run, refl, tell-with run n b key acts.Get (read_ask t n b) None (return_end p t n b) refl refl refl refl refl (version-asks run refl refl) (λ x none. absurd (none-some x none)) (own-ends run refl refl) m is)
   tells-by (asked.Collect key) m is = absurd is
+  tells-by (asked.Swap key expected value) m is = absurd is
 
   first-asked : (s : ℕ) (found : Timestamp) → first_reading p t b ≡ Some (record { step = s; found = found }) → write_ask t n b ≡ Some (moment s (points.Ask n found))
   first-asked s found is =
@@ -194,6 +197,7 @@ module _ (p : Params) (t : List Deed) (b : Begun) where
       let own = run_with p t b key acts.Get (version_reading p t b) None in
       has-with own n b key acts.Get (read_ask t n b) None (return_end p t n b) refl refl refl refl refl version-asked (λ k stamp applied none. absurd (none-some _ none)) own-ended s q (subst (λ (r : Run). IsPointOf r s q) (sym (same_Some own run is)) of)
   has-by (asked.Collect key) run is s q of = absurd (none-some run is)
+  has-by (asked.Swap key expected value) run is s q of = absurd (none-some run is)
 
 -- ---- the steps of the moments differ
 
@@ -213,11 +217,16 @@ name_of (Served (asks.Update c o k r)) = Some (name c o 2)
 name_of (Served (asks.Watch c o k s)) = None
 name_of (Served (asks.Olds c o k)) = None
 name_of (Served (asks.Forget c o k ss)) = None
+name_of (Served (asks.Swap c o k e r)) = Some (name c o 2)
 name_of (Handed c o w cue) = Some (name c o 3)
 name_of Joined = None
 name_of (Granted ask) = None
 name_of (Stopped c) = None
 name_of Nothing = None
+
+tried-name : (a : Attempt) (e : Option Timestamp) → name_of (Served (ask_with a e)) ≡ Some (name a.client a.op 2)
+tried-name a None = refl
+tried-name a (Some e) = refl
 
 abbrev name_at : List Deed → ℕ → Option Name
 name_at t n = option_and_then name_of (deed_at t n)
@@ -262,6 +271,7 @@ module _ (p : Params) (t : List Deed) (b : Begun) where
   own-pairs (asked.Delete key) = pairs-told (moment (length b.start.before + 1) (points.Begin (number_of b) b.client key acts.Delete)) (write_ask t (number_of b) b) (write_set p t (number_of b) b key None) (return_end p t (number_of b) b) refl ask-kind (set-kind key None) end-kind
   own-pairs (asked.Get key) = pairs-told (moment (length b.start.before + 1) (points.Begin (number_of b) b.client key acts.Get)) (read_ask t (number_of b) b) None (return_end p t (number_of b) b) refl version-kind (λ m none. absurd (none-some m none)) end-kind
   own-pairs (asked.Collect key) = tt
+  own-pairs (asked.Swap key expected value) = tt
 
 module _ (p : Params) (t : List Deed) (trace : IsTrace p t) where
   at-deed : (d : Deed) (n : ℕ) → deed_at t n ≡ Some d → name_at t n ≡ name_of d
@@ -288,9 +298,10 @@ module _ (p : Params) (t : List Deed) (trace : IsTrace p t) where
   named run is n (points.Set op stamp applied) of = elim (kind p t run is) [
     | inr w ↦ absurd (none-some (record { step = n; stamp = stamp; is_applied = applied }) (sym (ap (λ (y : Run). y.set) w.run_is) ∙ of.1))
     | inl w ↦
-        let x = writing-parts (own_stamp (write_plan p.f p.k is.b.client is.b.op run.key w.value) (inputs_of is.b.client is.b.op t)) (first_update (is_own is.b.client is.b.op) t) (record { step = n; stamp = stamp; is_applied = applied }) (sym (ap (λ (y : Run). y.set) w.run_is) ∙ of.1) in
+        let x = writing-parts (own_stamp (write_plan p.f p.k is.b.client is.b.op run.key (change_value w.change)) (inputs_of is.b.client is.b.op t)) (first_update (is_own is.b.client is.b.op) t) (record { step = n; stamp = stamp; is_applied = applied }) (sym (ap (λ (y : Run). y.set) w.run_is) ∙ of.1) in
         let u = update-deed is.b.client is.b.op t x.0 x.1 in
-        ap (name_at t) x.3 ∙ at-deed (Served (asks.Update is.b.client is.b.op u.0 u.1)) x.0.step u.2
+        ap (name_at t) x.3 ∙ (at-deed (Served (ask_with u.attempt u.attempt.expected)) x.0.step u.deed
+        ∙ (tried-name u.attempt u.attempt.expected ∙ (ap (λ (c : ℕ). Some (name c u.attempt.op 2)) u.client ∙ ap (λ (o : ℕ). Some (name is.b.client o 2)) u.op)))
   ]
 
   -- each moment of an operation that began
@@ -404,10 +415,10 @@ module _ (p : Params) (t : List Deed) (trace : IsTrace p t) where
         (x.0, in-sorted step_cmp (all_moments p t ops) x.0 (to-all p t trace ops is.b x.0 (among-reverse (begun_of t) is.b (begun-in is.b.client is.b.op t is.b.start is.began)) x.1), x.2, x.3));
   }
 
-  pub points-atomic : IsAtomicLog (points_of p t)
+  pub points-atomic : HasNoSwaps t → IsAtomicLog (points_of p t)
   unfolding points_of
-  points-atomic = is-atomic step_of point_at (IsRun p t) (top_at t) in_order are-moments (are-runs p t trace)
+  points-atomic none = is-atomic step_of point_at (IsRun p t) (top_at t) in_order are-moments (are-runs p t trace none)
 
-  pub points-once : AsksOnce (points_of p t)
+  pub points-once : HasNoSwaps t → AsksOnce (points_of p t)
   unfolding points_of
-  points-once = asks-once step_of point_at (IsRun p t) (top_at t) in_order are-moments (are-runs p t trace)
+  points-once none = asks-once step_of point_at (IsRun p t) (top_at t) in_order are-moments (are-runs p t trace none)

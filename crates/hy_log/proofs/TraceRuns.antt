@@ -3,7 +3,7 @@ use Rattle.std.proofs.Common.{◌≡◌, ℕ, ◌+◌, ◌≤◌, ◌<◌, Bool,
 use Rattle.std.specs.Prelude.{◌⊎◌}
 use Rattle.std.specs.Option.{option_map, option_and_then}
 use Rattle.std.proofs.lemmas.Option.{none-some, same_Some}
-use Rattle.std.proofs.lemmas.Bool.{both_ways, cases_lt}
+use Rattle.std.proofs.lemmas.Bool.{both_ways, cases_lt, false≢true}
 use Rattle.hy_record.specs.declared.action.Action.{Action}
 use Rattle.hy_record.specs.declared.action.Action.TheVariants as asked
 use Rattle.hy_record.specs.declared.message.MetaAsk.TheVariants as asks
@@ -13,6 +13,7 @@ use Rattle.hy_record.specs.Record.{RecordValue}
 use Rattle.hy_record.specs.Stamp.{Timestamp, stamp_lt, next_stamp}
 use Rattle.hy_record.proofs.Order.{stamp_lt-same, stamp_lt-neither, stamp_eq-true}
 use Rattle.hy_meta.specs.Service.{stamp_of_record}
+use Rattle.hy_meta.proofs.Lasting.{applied-tried}
 use Rattle.hy_meta.proofs.Rising.{cases_bool}
 use Rattle.hy_protocol.specs.Operations.{key_of, write_plan, replied}
 use Rattle.hy_protocol.specs.Read.{version_of, read_reply}
@@ -21,27 +22,29 @@ use Rattle.hy_points.specs.declared.point.ActKind.{ActKind}
 use Rattle.hy_points.specs.declared.point.ActKind.TheVariants as acts
 use Rattle.hy_points.specs.Atomic.{no_stamp, writes}
 use Rattle.hy_points.specs.Runs.{Reading, Writing, Run, MayReturn, ReadsWell, WritesWell, IsRaised, AreRuns}
-use Rattle.hy_trace.specs.Deeds.{Params, Deed, Joined, Began, Handed, Served, Granted, Stopped, Nothing, Start, inputs_of, start_of, start_at, reply_of}
+use Rattle.hy_points.specs.Stamps.{is_swap}
+use Rattle.hy_trace.specs.Deeds.{Params, Deed, Joined, Began, Handed, Served, Granted, Stopped, Nothing, Start, served, inputs_of, start_of, start_at, reply_of}
 use Rattle.hy_trace.specs.History.{Return, return_of, Begun, begun_of}
-use Rattle.hy_trace.specs.Messages.{Ask, Say, IsSentAt}
+use Rattle.hy_trace.specs.Messages.{Say, IsSentAt}
 use Rattle.hy_trace.specs.Points.{Update, first_update, is_own, version_made}
 use Rattle.hy_trace.specs.Trace.{IsTrace}
 use Rattle.hy_trace.proofs.Growth.{zero_stamp, zero-least, or-first, or-cases, start-same, start-now}
-use Rattle.hy_theorems.specs.Writing.{IsWriting, write_action}
+use Rattle.hy_theorems.specs.Writing.{Change, Puts, Deletes, Swaps, change_value, change_expected, change_action, IsMet, IsWriting}
 use Rattle.hy_theorems.proofs.Apart.{own-has, replies-by, replied-write, start-trace}
 use Rattle.hy_theorems.proofs.Beginnings.{begun}
-use Rattle.hy_theorems.proofs.Invariant.{trace-holds}
-use Rattle.hy_theorems.proofs.Meaning.{IsUpdating, asked-sent}
-use Rattle.hy_theorems.proofs.Overwritten.{first-applied, own-update, at-asked}
+use Rattle.hy_theorems.proofs.Invariant.{by-means, trace-holds}
+use Rattle.hy_theorems.proofs.Meaning.{IsUpdating, ask_with}
+use Rattle.hy_theorems.proofs.Overwritten.{applied-was, first-applied, own-update, at-applied}
 use Rattle.hy_theorems.proofs.Points.{version-returned, answered-version}
 use Rattle.hy_theorems.proofs.ReadPoints.{has-at, reply-version}
 use Rattle.hy_theorems.proofs.RealTime.{returned-within, return-reply, shorter}
-use Rattle.hy_theorems.proofs.TopAt.{top_at, at-rises, IsServedUpdate, first-served, asked-first}
+use Rattle.hy_theorems.proofs.TopAt.{top_at, at-rises, IsServedUpdate, first-served, tried-first}
 use Rattle.hy_theorems.proofs.Writes.{key_of-write, update-own}
 use Rattle.hy_log.specs.Courses.{first_made, version_stamp}
+use Rattle.hy_log.specs.Points.{HasNoSwaps}
 use Rattle.hy_log.proofs.Coursing.{never-replied}
 use Rattle.hy_log.proofs.DeedAt.{deed_at, read-deed, read-late, begin-deed, update-deed, end-deed, return-late}
-use Rattle.hy_log.proofs.FirstMade.{first-sent, version-sent, told-before, first-returned, updated-before}
+use Rattle.hy_log.proofs.FirstMade.{first-sent, version-sent, told-before, first-returned, free-reply, updated-before}
 
 -- ---- the run of an operation
 
@@ -74,6 +77,7 @@ module _ (p : Params) (t : List Deed) where
   run_by b (asked.Delete key) = Some (run_with b key acts.Delete (first_reading b) (own_writing b key None))
   run_by b (asked.Get key) = Some (run_with b key acts.Get (version_reading b) None)
   run_by b (asked.Collect key) = None
+  run_by b (asked.Swap key expected value) = None
 
   -- the run is that of an operation of the trace
   pub record IsRun (run : Run) : Type 0 where
@@ -83,10 +87,11 @@ module _ (p : Params) (t : List Deed) where
 
   -- a write with its value, or a get
   pub record IsWriteRun (b : Begun) (run : Run) : Type 0 where
-    pub value : Option (List ℕ)
-    pub action_is : b.start.action ≡ write_action run.key value
+    pub change : Change
+    pub action_is : b.start.action ≡ change_action run.key change
+    pub free : change_expected change ≡ None
     pub act_is : (run.act ≡ acts.Put) ⊎ (run.act ≡ acts.Delete)
-    pub run_is : run ≡ run_with b run.key run.act (first_reading b) (own_writing b run.key value)
+    pub run_is : run ≡ run_with b run.key run.act (first_reading b) (own_writing b run.key (change_value change))
 
   pub record IsReadRun (b : Begun) (run : Run) : Type 0 where
     pub action_is : b.start.action ≡ asked.Get run.key
@@ -95,14 +100,15 @@ module _ (p : Params) (t : List Deed) where
   pub kind-of : (b : Begun) (run : Run) (a : Action) → b.start.action ≡ a → run_by b a ≡ Some run → IsWriteRun b run ⊎ IsReadRun b run
   kind-of b run (asked.Put key value) action is =
       let same : run_with b key acts.Put (first_reading b) (own_writing b key (Some value)) ≡ run = same_Some (run_with b key acts.Put (first_reading b) (own_writing b key (Some value))) run is in
-      inl (subst (IsWriteRun b) same (record { value = Some value; action_is = action; act_is = inl refl; run_is = refl }))
+      inl (subst (IsWriteRun b) same (record { change = Puts value; action_is = action; free = refl; act_is = inl refl; run_is = refl }))
   kind-of b run (asked.Delete key) action is =
       let same : run_with b key acts.Delete (first_reading b) (own_writing b key None) ≡ run = same_Some (run_with b key acts.Delete (first_reading b) (own_writing b key None)) run is in
-      inl (subst (IsWriteRun b) same (record { value = None; action_is = action; act_is = inr refl; run_is = refl }))
+      inl (subst (IsWriteRun b) same (record { change = Deletes; action_is = action; free = refl; act_is = inr refl; run_is = refl }))
   kind-of b run (asked.Get key) action is =
       let same : run_with b key acts.Get (version_reading b) None ≡ run = same_Some (run_with b key acts.Get (version_reading b) None) run is in
       inr (subst (IsReadRun b) same (record { action_is = action; run_is = refl }))
   kind-of b run (asked.Collect key) action is = absurd (none-some run is)
+  kind-of b run (asked.Swap key expected value) action is = absurd (none-some run is)
 
   pub kind : (run : Run) → (is : IsRun run) → IsWriteRun is.b run ⊎ IsReadRun is.b run
   kind run is = kind-of is.b run is.b.start.action refl is.is
@@ -204,7 +210,18 @@ one-start c o b n t s u first second same =
     let e : length s.before + 1 ≡ length u.before + 1 = omega (arith, same) in
     began-same (sym (begin-deed c o t s first).0 ∙ (ap (deed_at t) e ∙ (begin-deed b n t u second).0))
 
-module _ (p : Params) (t : List Deed) (trace : IsTrace p t) where
+free-met : (change : Change) (inputs : List Cue) → change_expected change ≡ None → IsMet (change_expected change) inputs
+free-met (Puts v) inputs free = tt
+free-met Deletes inputs free = tt
+free-met (Swaps e v) inputs free = absurd (none-some e (sym free))
+
+-- a write that is no swap expects nothing
+pub no-swap : {a : Action} (key : List ℕ) (change : Change) → is_swap a ≡ false → a ≡ change_action key change → change_expected change ≡ None
+no-swap key (Puts v) none action = refl
+no-swap key Deletes none action = refl
+no-swap key (Swaps e v) none action = absurd (false≢true (sym none ∙ ap is_swap action))
+
+module _ (p : Params) (t : List Deed) (trace : IsTrace p t) (none : HasNoSwaps t) where
   same-run : (a b : Run) → (x : IsRun p t a) → (y : IsRun p t b) → length x.b.start.before ≡ length y.b.start.before → a ≡ b
   same-run a b x y same =
       let names = one-start x.b.client x.b.op y.b.client y.b.op t x.b.start y.b.start x.began y.began same in
@@ -265,7 +282,7 @@ module _ (p : Params) (t : List Deed) (trace : IsTrace p t) where
     ended-return run end of is = map-some (λ (r : Return). r.at) (return_of p b.client b.op t) end (sym of ∙ is)
 
   write-key : (b : Begun) (run : Run) → (w : IsWriteRun p t b run) → key_of b.start.action ≡ run.key
-  write-key b run w = ap key_of w.action_is ∙ key_of-write run.key w.value
+  write-key b run w = ap key_of w.action_is ∙ key_of-write run.key w.change
 
   -- a reading by an answer that tells the record
   well-read : (run : Run) (r : Reading) (b : Begun) → start_of b.client b.op t ≡ Some b.start → (w : ℕ) (held : Option RecordValue) → IsSentAt p t w (Say (says.Has b.client b.op (key_of b.start.action) held))
@@ -293,7 +310,7 @@ module _ (p : Params) (t : List Deed) (trace : IsTrace p t) where
       well-read run r b began (first_made b.client b.op t) found.0 (first-sent p b.client b.op t trace b.start began found.0 found.1) step (ap (λ (x : Reading). x.found) found.2) (write-key b run w)
       (ap (λ (x : Run). x.begun) w.run_is) (ap (λ (x : Run). x.ended) w.run_is) (λ x returned. first-returned p b.client b.op t x trace returned)
       (λ writing has. (
-      let x = writing-parts (own_stamp (write_plan p.f p.k b.client b.op run.key w.value) (inputs_of b.client b.op t)) (first_update (is_own b.client b.op) t) writing (sym (ap (λ (y : Run). y.set) w.run_is) ∙ has) in
+      let x = writing-parts (own_stamp (write_plan p.f p.k b.client b.op run.key (change_value w.change)) (inputs_of b.client b.op t)) (first_update (is_own b.client b.op) t) writing (sym (ap (λ (y : Run). y.set) w.run_is) ∙ has) in
       let told_ = (told-before p b.client b.op t trace x.0 x.1).sooner in
       let same = x.3 in
       omega (arith, step, told_, same)))
@@ -306,8 +323,8 @@ module _ (p : Params) (t : List Deed) (trace : IsTrace p t) where
       (λ writing has. absurd (none-some writing (sym (ap (λ (y : Run). y.set) w.run_is) ∙ has)))
 
   -- the write of a run
-  is-writing : (run : Run) (b : Begun) (stamp : Timestamp) → start_of b.client b.op t ≡ Some b.start → (w : IsWriteRun p t b run) → own_stamp (write_plan p.f p.k b.client b.op run.key w.value) (inputs_of b.client b.op t) ≡ Some stamp → IsWriting p b.client b.op run.key stamp t
-  is-writing run b stamp began w own = record { start = b.start; began = began; value = w.value; action_is = w.action_is; own = own }
+  abbrev is-writing : (run : Run) (b : Begun) (stamp : Timestamp) → start_of b.client b.op t ≡ Some b.start → (w : IsWriteRun p t b run) → own_stamp (write_plan p.f p.k b.client b.op run.key (change_value w.change)) (inputs_of b.client b.op t) ≡ Some stamp → IsWriting p b.client b.op run.key stamp t
+  is-writing run b stamp began w own = record { start = b.start; began = began; change = w.change; action_is = w.action_is; met = free-met w.change (inputs_of b.client b.op t) w.free; own = own }
 
   writes-act : (act : ActKind) → (act ≡ acts.Put) ⊎ (act ≡ acts.Delete) → writes act ≡ true
   writes-act act (inl is) = ap writes is
@@ -315,9 +332,9 @@ module _ (p : Params) (t : List Deed) (trace : IsTrace p t) where
 
   own-writes : (run : Run) (writing : Writing) (b : Begun) → start_of b.client b.op t ≡ Some b.start → (w : IsWriteRun p t b run) → run.set ≡ Some writing → WritesWell (top_at t) run writing
   own-writes run writing b began w is =
-      let x = writing-parts (own_stamp (write_plan p.f p.k b.client b.op run.key w.value) (inputs_of b.client b.op t)) (first_update (is_own b.client b.op) t) writing (sym (ap (λ (y : Run). y.set) w.run_is) ∙ is) in
+      let x = writing-parts (own_stamp (write_plan p.f p.k b.client b.op run.key (change_value w.change)) (inputs_of b.client b.op t)) (first_update (is_own b.client b.op) t) writing (sym (ap (λ (y : Run). y.set) w.run_is) ∙ is) in
       let wr = is-writing run b writing.stamp began w x.2 in
-      let plan = write_plan p.f p.k b.client b.op run.key w.value in
+      let plan = write_plan p.f p.k b.client b.op run.key (change_value w.change) in
       let has = own-has plan (inputs_of b.client b.op t) writing.stamp x.2 in
       let served_ = (first-served (is_own b.client b.op) t x.0 x.1).0 in
       let of = own-update p t trace b.client b.op run.key writing.stamp wr x.0 x.1 in
@@ -328,32 +345,32 @@ module _ (p : Params) (t : List Deed) (trace : IsTrace p t) where
         reading = record { step = first_made b.client b.op t; found = stamp_of_record has.0 };
         asked = ap (λ (y : Run). y.asked) w.run_is ∙ ap (option_map (λ held. record { step = first_made b.client b.op t; found = stamp_of_record held })) has.1;
         next = ap (next_stamp (stamp_of_record has.0)) (ap (λ (y : Run). y.client) w.run_is) ∙ has.2;
-        applies = λ n e. x.4 ∙ applies x.0 served_ of n (e ∙ step) (x.0.is_applied) refl;
+        applies = λ n e. x.4 ∙ applies x.0 served_ (of.0, of.1) (of.2 ∙ w.free) n (e ∙ step) (x.0.is_applied) refl;
         ended = λ end ended. (
             let r = ended-return b began run end (ap (λ (y : Run). y.ended) w.run_is) ended in
-            let v = updated-before p b.client b.op t trace run.key w.value b.start began w.action_is writing.stamp x.2 r.0 r.1 in
+            let v = updated-before p b.client b.op t trace run.key w.change w.free b.start began w.action_is writing.stamp x.2 r.0 r.1 in
             let one = ap (λ (y : Update). y.step) (same_Some v.0 x.0 (sym v.1 ∙ x.1)) in
             let le = v.2 in
             let same = r.2 in
-            let less = before-end b began x.0.step r.0 (Served (asks.Update b.client b.op u.0 u.1)) (λ n cue f. cc) r.1 u.2 (omega (arith, one, le)) in
+            let less = before-end b began x.0.step r.0 (Served (ask_with u.attempt u.attempt.expected)) (λ n cue f. cc) r.1 u.deed (omega (arith, one, le)) in
             omega (arith, step, less, same));
       }
     where
-      applies : (u : Update) → IsServedUpdate t u → (u.key ≡ run.key) × (u.stamp ≡ writing.stamp) → (n : ℕ) → n + 1 ≡ u.step → (applied : Bool) → u.is_applied ≡ applied → u.is_applied ≡ stamp_lt (top_at t run.key n) writing.stamp
-      applies u served_ of n e true applied =
+      applies : (u : Update) → (s : IsServedUpdate t u) → (u.key ≡ run.key) × (u.stamp ≡ writing.stamp) → s.attempt.expected ≡ None → (n : ℕ) → n + 1 ≡ u.step → (applied : Bool) → u.is_applied ≡ applied → u.is_applied ≡ stamp_lt (top_at t run.key n) writing.stamp
+      applies u served_ of free n e true applied =
           applied ∙ sym (ap (λ (k : List ℕ). stamp_lt (top_at t k n) writing.stamp) (sym of.0) ∙ (ap (stamp_lt (top_at t u.key n)) (sym of.1) ∙ (served_.applied applied).1 n (omega (arith, e))))
-      applies u served_ of n e false refused =
-          refused ∙ sym (ap (λ (k : List ℕ). stamp_lt (top_at t k n) writing.stamp) (sym of.0) ∙ (ap (stamp_lt (top_at t u.key n)) (sym of.1) ∙ served_.refused refused n e))
+      applies u served_ of free n e false refused =
+          refused ∙ sym (ap (λ (k : List ℕ). stamp_lt (top_at t k n) writing.stamp) (sym of.0) ∙ (ap (stamp_lt (top_at t u.key n)) (sym of.1) ∙ served_.refused refused free n e))
 
   write-returns : (run : Run) (b : Begun) → start_of b.client b.op t ≡ Some b.start → (w : IsWriteRun p t b run) → (r : Return) → return_of p b.client b.op t ≡ Some r
       → ((x : Writing) × (run.set ≡ Some x)) ⊎ ((x : Reading) × (run.asked ≡ Some x) × (next_stamp x.found run.client ≡ None))
   unfolding own_stamp
   write-returns run b began w r returned =
       let inputs = inputs_of b.client b.op t in
-      let plan = write_plan p.f p.k b.client b.op run.key w.value in
+      let plan = write_plan p.f p.k b.client b.op run.key (change_value w.change) in
       let h = return-reply p b.client b.op t r trace returned in
       let same : h.start ≡ b.start = start-same b.client b.op t h.start b.start h.began began in
-      let replies : write_reply plan inputs ≡ Some r.reply = sym (replied-write p b.client b.op run.key w.value inputs) ∙ (ap (λ (a : Action). replied p.f p.k b.client b.op a inputs) (sym (ap (λ (s : Start). s.action) same ∙ w.action_is)) ∙ h.replies) in
+      let replies : write_reply plan inputs ≡ Some r.reply = sym (replied-write p b.client b.op run.key w.change inputs ∙ free-reply plan w.change inputs w.free) ∙ (ap (λ (a : Action). replied p.f p.k b.client b.op a inputs) (sym (ap (λ (s : Start). s.action) same ∙ w.action_is)) ∙ h.replies) in
       let by = replies-by plan inputs r.reply replies in
       by_stamp by.held by.has (next_stamp (stamp_of_record by.held) b.client) refl
     where
@@ -365,14 +382,14 @@ module _ (p : Params) (t : List Deed) (trace : IsTrace p t) where
         ap (next_stamp (stamp_of_record held)) (ap (λ (y : Run). y.client) w.run_is) ∙ next,
       )
       by_stamp held has (Some x) next =
-          (let own : own_stamp (write_plan p.f p.k b.client b.op run.key w.value) (inputs_of b.client b.op t) ≡ Some x = has-own held has x next in
-          let u = updated-before p b.client b.op t trace run.key w.value b.start began w.action_is x own r returned in
+          (let own : own_stamp (write_plan p.f p.k b.client b.op run.key (change_value w.change)) (inputs_of b.client b.op t) ≡ Some x = has-own held has x next in
+          let u = updated-before p b.client b.op t trace run.key w.change w.free b.start began w.action_is x own r returned in
           inl (
             record { step = u.0.step; stamp = x; is_applied = u.0.is_applied },
             ap (λ (y : Run). y.set) w.run_is ∙ (ap (λ (s : Option Timestamp). writing_with s (first_update (is_own b.client b.op) t)) own ∙ ap (writing_with (Some x)) u.1),
           ))
         where
-          has-own : (held : Option RecordValue) → first_has (inputs_of b.client b.op t) ≡ Some held → (x : Timestamp) → next_stamp (stamp_of_record held) b.client ≡ Some x → own_stamp (write_plan p.f p.k b.client b.op run.key w.value) (inputs_of b.client b.op t) ≡ Some x
+          has-own : (held : Option RecordValue) → first_has (inputs_of b.client b.op t) ≡ Some held → (x : Timestamp) → next_stamp (stamp_of_record held) b.client ≡ Some x → own_stamp (write_plan p.f p.k b.client b.op run.key (change_value w.change)) (inputs_of b.client b.op t) ≡ Some x
           has-own held has x next = ap (option_and_then (stamp_upon b.client)) has ∙ next
 
   -- ---- the record
@@ -417,7 +434,7 @@ module _ (p : Params) (t : List Deed) (trace : IsTrace p t) where
   applied-update run writing is has applied = elim (kind p t run is) [
     | inr w ↦ absurd (none-some writing (sym (ap (λ (y : Run). y.set) w.run_is) ∙ has))
     | inl w ↦
-        let x = writing-parts (own_stamp (write_plan p.f p.k is.b.client is.b.op run.key w.value) (inputs_of is.b.client is.b.op t)) (first_update (is_own is.b.client is.b.op) t) writing (sym (ap (λ (y : Run). y.set) w.run_is) ∙ has) in
+        let x = writing-parts (own_stamp (write_plan p.f p.k is.b.client is.b.op run.key (change_value w.change)) (inputs_of is.b.client is.b.op t)) (first_update (is_own is.b.client is.b.op) t) writing (sym (ap (λ (y : Run). y.set) w.run_is) ∙ has) in
         let of = own-update p t trace is.b.client is.b.op run.key writing.stamp (is-writing run is.b writing.stamp is.began w x.2) x.0 x.1 in
         let served_ = (first-served (is_own is.b.client is.b.op) t x.0 x.1).0 in
         ap (top_at t run.key) x.3 ∙ (ap (λ (k : List ℕ). top_at t k x.0.step) (sym of.0) ∙ ((served_.applied (sym x.4 ∙ applied)).0 ∙ of.1))
@@ -430,24 +447,30 @@ module _ (p : Params) (t : List Deed) (trace : IsTrace p t) where
   from key step = elim (cases_bool (stamp_lt zero_stamp (top_at t key step))) [
     | inr upto ↦ inl (sym (stamp_eq-true zero_stamp (top_at t key step) (stamp_lt-neither zero_stamp (top_at t key step) upto (zero-least (top_at t key step)))))
     | inl above ↦
-        let a = at-asked t key step (top_at t key step) refl above in
-        let meant : IsUpdating p a.0 a.1 key a.2 t = (trace-holds p t trace).said (Ask (asks.Update a.0 a.1 key a.2)) (asked-sent p t (asks.Update a.0 a.1 key a.2) trace a.3) in
-        let u = asked-first a.0 a.1 key a.2 t a.3 in
-        let own : own_stamp (write_plan p.f p.k a.0 a.1 key meant.value) (inputs_of a.0 a.1 t) ≡ Some (top_at t key step) = update-own (write_plan p.f p.k a.0 a.1 key meant.value) (inputs_of a.0 a.1 t) a.2 meant.update ∙ ap Some a.4 in
-        let wr : IsWriting p a.0 a.1 key (top_at t key step) t = record { start = meant.start; began = meant.began; value = meant.value; action_is = meant.action_is; own = own } in
-        let of = own-update p t trace a.0 a.1 key (top_at t key step) wr u.0 u.1 in
-        let applied = first-applied p a.0 a.1 t u.0 trace u.1 a.5 in
-        let served_ = (first-served (is_own a.0 a.1) t u.0 u.1).0 in
-        inr (raised (begun a.0 a.1 meant.start) meant.began meant.value meant.action_is u.0 u.1 own applied (elim (cases_lt step u.0.step) [
+        let found = at-applied t key step (top_at t key step) refl above in
+        let a = found.0 in
+        let c = a.client in let o = a.op in
+        let tried = applied-tried (served t) a found.1 in
+        let meant : IsUpdating p c o key a.expected a.rec t = by-means p t a c o key trace (trace-holds p t trace) tried (refl, refl, found.2) in
+        let free : change_expected meant.change ≡ None = no-swap key meant.change (none c o meant.start meant.began) meant.action_is in
+        let u = tried-first a t tried in
+        let plan = write_plan p.f p.k c o key (change_value meant.change) in
+        let own : own_stamp plan (inputs_of c o t) ≡ Some (top_at t key step) = update-own plan (inputs_of c o t) a.rec meant.update ∙ ap Some found.3 in
+        let wr : IsWriting p c o key (top_at t key step) t = record { start = meant.start; began = meant.began; change = meant.change; action_is = meant.action_is; met = meant.met; own = own } in
+        let of = own-update p t trace c o key (top_at t key step) wr u.0 u.1 in
+        let applied = first-applied p c o t u.0 trace u.1 (applied-was (served t) a found.1) in
+        let served_ = (first-served (is_own c o) t u.0 u.1).0 in
+        inr (raised (begun c o meant.start) meant.began meant.change free meant.action_is u.0 u.1 own applied (elim (cases_lt step u.0.step) [
           | inr within ↦ within
           | inl early ↦ absurd (both_ways (stamp_lt (top_at t key step) (top_at t key step)) (stamp_lt-same (top_at t key step))
               (ap (λ (k : List ℕ). stamp_lt (top_at t k step) (top_at t key step)) (sym of.0) ∙ (ap (stamp_lt (top_at t u.0.key step)) (sym of.1) ∙ (served_.applied applied).1 step early)))
         ]))
   ]
     where
-      raised : (b : Begun) → start_of b.client b.op t ≡ Some b.start → (value : Option (List ℕ)) → b.start.action ≡ write_action key value → (u : Update) → first_update (is_own b.client b.op) t ≡ Some u
-          → own_stamp (write_plan p.f p.k b.client b.op key value) (inputs_of b.client b.op t) ≡ Some (top_at t key step) → u.is_applied ≡ true → u.step ≤ step → IsRaised (IsRun p t) key step (top_at t key step)
-      raised b began (Some v) action u first own applied within = record {
+      raised : (b : Begun) → start_of b.client b.op t ≡ Some b.start → (change : Change) → change_expected change ≡ None → b.start.action ≡ change_action key change → (u : Update) → first_update (is_own b.client b.op) t ≡ Some u
+          → own_stamp (write_plan p.f p.k b.client b.op key (change_value change)) (inputs_of b.client b.op t) ≡ Some (top_at t key step) → u.is_applied ≡ true → u.step ≤ step → IsRaised (IsRun p t) key step (top_at t key step)
+      raised b began (Swaps e v) free action u first own applied within = absurd (none-some e (sym free))
+      raised b began (Puts v) free action u first own applied within = record {
         run = run_with p t b key acts.Put (first_reading p t b) (own_writing p t b key (Some v));
         is = record { b = b; began = began; is = ap (run_by p t b) action };
         key_is = refl;
@@ -457,7 +480,7 @@ module _ (p : Params) (t : List Deed) (trace : IsTrace p t) where
         within = within;
         stamp_is = refl;
       }
-      raised b began None action u first own applied within = record {
+      raised b began Deletes free action u first own applied within = record {
         run = run_with p t b key acts.Delete (first_reading p t b) (own_writing p t b key None);
         is = record { b = b; began = began; is = ap (run_by p t b) action };
         key_is = refl;
@@ -468,7 +491,7 @@ module _ (p : Params) (t : List Deed) (trace : IsTrace p t) where
         stamp_is = refl;
       }
 
-  -- the operations of a trace are runs over the record
+  -- the operations of a trace without swaps are runs over the record
   pub are-runs : AreRuns (top_at t) (IsRun p t)
   are-runs = record {
     numbers = numbers;

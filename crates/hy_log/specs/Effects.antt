@@ -1,12 +1,15 @@
 -- What a deed leads to.
-use Rattle.std.specs.Prelude.{◌≡◌, ℕ, List, [], ◌∷◌, map, Option, Some, None}
+use Rattle.std.specs.Prelude.{◌≡◌, ℕ, Bool, true, false, List, [], ◌∷◌, map, Option, Some, None}
+use Rattle.std.specs.Option.{option_map}
 use Rattle.hy_record.specs.declared.action.Reply.{Reply}
 use Rattle.hy_record.specs.declared.message.MetaAsk.{MetaAsk}
 use Rattle.hy_record.specs.declared.message.MetaAsk.TheVariants as asks
+use Rattle.hy_record.specs.declared.message.MetaSay.{MetaSay}
+use Rattle.hy_record.specs.declared.message.MetaSay.TheVariants as says
 use Rattle.hy_record.specs.declared.turn.Cue.TheVariants as cues
 use Rattle.hy_record.specs.Record.{RecordValue}
-use Rattle.hy_record.specs.Stamp.{stamp_lt}
-use Rattle.hy_meta.specs.Service.{stamp_of_record, record_stamp}
+use Rattle.hy_meta.specs.Service.{Attempt, attempt_of, applies, stamp_of_record, record_after}
+use Rattle.hy_meta.specs.Meta.{service_answers}
 use Rattle.hy_protocol.specs.Inputs.{has_of}
 use Rattle.hy_trace.specs.Deeds.{Params, Deed, Joined, Began, Handed, Served, Granted, Stopped, Nothing, served, inputs_of, start_of, reply_after}
 use Rattle.hy_trace.specs.Messages.{Message, Ask, Say, Request, Answer, sent_at}
@@ -65,14 +68,34 @@ heard_at (Granted ask) = None
 heard_at (Stopped c) = None
 heard_at Nothing = None
 
--- the update that the service serves by this request
+-- an attempt that is served
+abbrev pub updated_as : List MetaAsk → Attempt → Updated
+updated_as before a = record { client = a.client; op = a.op; is_applied = applies (record_after before a.key) a }
+
+-- the answer is that a swap was applied
+abbrev pub is_swapped : MetaSay → Bool
+is_swapped (says.Swapped c o k s) = true
+is_swapped (says.Changed c o k s) = false
+is_swapped (says.Has c o k r) = false
+is_swapped (says.Applied c o k s) = false
+is_swapped (says.Kept c o k s) = false
+is_swapped (says.Fired c o k s) = false
+is_swapped (says.OldList c o k ss) = false
+is_swapped (says.Forgot c o k) = false
+
+-- a swap of this operation that is answered so: one that is judged, or a repeat of it
+abbrev pub answered_swap : ℕ → ℕ → List MetaSay → Option Updated
+answered_swap c o [] = None
+answered_swap c o (say ∷ later) = Some (record { client = c; op = o; is_applied = is_swapped say })
+
+-- the update or swap that the service serves by this request, and answers
 abbrev pub updated_by : MetaAsk → List MetaAsk → Option Updated
-updated_by (asks.Update c o k r) before =
-    Some (record { client = c; op = o; is_applied = stamp_lt (record_stamp before k) r.stamp })
+updated_by (asks.Swap c o k expected r) before = answered_swap c o (service_answers before (asks.Swap c o k expected r))
+updated_by (asks.Update c o k r) before = option_map (updated_as before) (attempt_of before (asks.Update c o k r))
 updated_by (asks.Read c o k) before = None
-updated_by (asks.Watch c o k s) before = None
+updated_by (asks.Watch c o k stamp) before = None
 updated_by (asks.Olds c o k) before = None
-updated_by (asks.Forget c o k ss) before = None
+updated_by (asks.Forget c o k stamps) before = None
 
 -- the update that the service serves at a deed
 abbrev pub updated_at : Deed → List Deed → Option Updated

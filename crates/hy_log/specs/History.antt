@@ -30,6 +30,7 @@ abbrev pub first_progress : Action → Progress
 first_progress (asked.Put key value) = record { phase = phases.Read; have = 0; need = 1 }
 first_progress (asked.Get key) = record { phase = phases.Read; have = 0; need = 1 }
 first_progress (asked.Delete key) = record { phase = phases.Read; have = 0; need = 1 }
+first_progress (asked.Swap key expected value) = record { phase = phases.Read; have = 0; need = 1 }
 first_progress (asked.Collect key) = record { phase = phases.Olds; have = 0; need = 1 }
 
 -- the end of an operation that is so far

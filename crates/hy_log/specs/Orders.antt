@@ -4,7 +4,7 @@ use Rattle.std.specs.BTreeMap.{insert_entry, is_at}
 use Rattle.std.specs.Cmp.Lexicographic.{slice_cmp}
 use Rattle.std.specs.declared.cmp.Ordering.{Ordering}
 use Rattle.std.specs.Map.{lookup}
-use Rattle.std.specs.Option.{option_and_then, option_map}
+use Rattle.std.specs.Option.{option_and_then, option_map, option_or}
 use Rattle.std.specs.Ordering.{nat_cmp, ordering_then}
 use Rattle.hy_record.specs.declared.action.Action.{Action}
 use Rattle.hy_record.specs.declared.action.Action.TheVariants as asked
@@ -12,9 +12,10 @@ use Rattle.hy_record.specs.declared.action.Reply.{Reply}
 use Rattle.hy_record.specs.declared.action.Reply.TheVariants as told
 use Rattle.hy_record.specs.Stamp.{Timestamp, next_stamp, stamp_cmp}
 use Rattle.hy_order.specs.declared.order.Order.{Order}
-use Rattle.hy_order.specs.ReportRanges.{register_key}
+use Rattle.hy_order.specs.Keys.{register_key}
 use Rattle.hy_trace.specs.Order as trace
 use Rattle.hy_log.specs.declared.course.Course.{Course}
+use Rattle.hy_log.specs.declared.course.FirstUpdate.{FirstUpdate}
 use Rattle.hy_log.specs.declared.course.Returned.{Returned}
 use Rattle.hy_log.specs.declared.effects.Beginning.{Beginning}
 use Rattle.hy_log.specs.declared.log.Started.{Started}
@@ -25,7 +26,7 @@ use Rattle.hy_log.specs.Courses.{course_at}
 abbrev pub place_cmp : Place → Place → Ordering
 place_cmp a b = ordering_then (stamp_cmp a.stamp b.stamp) (nat_cmp a.made b.made)
 
--- a put or delete finished
+-- a put, a delete or a swap did what was asked
 abbrev pub is_done : Option Returned → Bool
 is_done None = false
 is_done (Some returned) = trace.is_done returned.reply
@@ -34,7 +35,7 @@ is_done (Some returned) = trace.is_done returned.reply
 abbrev pub place_of_write : Timestamp → Place
 place_of_write stamp = record { stamp = stamp; made = 0 }
 
--- the place of a put or delete of the client: it is listed where it finished or its update was applied
+-- the place of a write of the client: it is listed where it did what was asked or its update was applied
 abbrev pub write_place : ℕ → Course → Option Place
 write_place client course =
     if course.is_applied || is_done course.returned
@@ -47,6 +48,8 @@ found_place made (told.Absent stamp) = Some (record { stamp = stamp; made = made
 found_place made (told.Done stamp) = None
 found_place made (told.Exhausted stamp) = None
 found_place made (told.Collected count) = None
+found_place made (told.Swapped stamp) = None
+found_place made (told.Changed stamp) = None
 
 abbrev pub returned_place : ℕ → Option Returned → Option Place
 returned_place made None = None
@@ -56,11 +59,41 @@ returned_place made (Some returned) = found_place made returned.reply
 abbrev pub read_place : Course → Option Place
 read_place course = returned_place course.made course.returned
 
+-- the step at which a swap was judged, or else at which its answer was made
+abbrev pub step_or : Option FirstUpdate → ℕ → ℕ
+step_or None made = made
+step_or (Some u) made = u.at
+
+abbrev pub judged_at : Course → ℕ
+judged_at course = step_or course.updated course.made
+
+-- the place of a swap that found another record at this step
+abbrev pub found_changed : ℕ → Reply → Option Place
+found_changed step (told.Changed stamp) = Some (record { stamp = stamp; made = step })
+found_changed step (told.Value value stamp) = None
+found_changed step (told.Absent stamp) = None
+found_changed step (told.Done stamp) = None
+found_changed step (told.Exhausted stamp) = None
+found_changed step (told.Collected count) = None
+found_changed step (told.Swapped stamp) = None
+
+abbrev pub changed_by : ℕ → Option Returned → Option Place
+changed_by step None = None
+changed_by step (Some returned) = found_changed step returned.reply
+
+abbrev pub changed_place : Course → Option Place
+changed_place course = changed_by (judged_at course) course.returned
+
+-- the place of a swap: where it found another record it is listed as a read, else as a write
+abbrev pub swap_place : ℕ → Course → Option Place
+swap_place client course = option_or (changed_place course) (write_place client course)
+
 abbrev pub action_place : ℕ → Course → Action → Option Place
 action_place client course (asked.Put key value) = write_place client course
 action_place client course (asked.Delete key) = write_place client course
 action_place client course (asked.Get key) = read_place course
 action_place client course (asked.Collect key) = None
+action_place client course (asked.Swap key expected value) = swap_place client course
 
 -- the place of an operation of this course, if an order of its key lists it
 abbrev pub listed_place : Beginning → Course → Option Place

@@ -1,5 +1,5 @@
 -- The points of a trace: the moments that decide the orders of its operations.
-use Rattle.std.specs.Prelude.{ℕ, ◌+◌, List, [], ◌∷◌, ◌++◌, length, map, reverse, Option, Some, None}
+use Rattle.std.specs.Prelude.{◌≡◌, ℕ, ◌+◌, false, List, [], ◌∷◌, ◌++◌, length, map, reverse, Option, Some, None}
 use Rattle.std.specs.declared.cmp.Ordering.{Ordering}
 use Rattle.std.specs.List.{filter_map}
 use Rattle.std.specs.Option.{option_and_then, option_map}
@@ -16,7 +16,8 @@ use Rattle.hy_points.specs.declared.point.ActKind.TheVariants as acts
 use Rattle.hy_points.specs.declared.point.Point.{Point}
 use Rattle.hy_points.specs.declared.point.Point.TheVariants as points
 use Rattle.hy_points.specs.Marks.{sorted_by}
-use Rattle.hy_trace.specs.Deeds.{Params, Deed, inputs_of}
+use Rattle.hy_points.specs.Stamps.{is_swap}
+use Rattle.hy_trace.specs.Deeds.{Params, Deed, Start, inputs_of, start_of}
 use Rattle.hy_trace.specs.History.{Return, return_of, Begun, begun_of}
 use Rattle.hy_trace.specs.Points.{Update, first_update, is_own, version_made}
 use Rattle.hy_log.specs.declared.course.Course.{Course}
@@ -47,8 +48,13 @@ act_kind (asked.Put key value) = Some (key, acts.Put)
 act_kind (asked.Get key) = Some (key, acts.Get)
 act_kind (asked.Delete key) = Some (key, acts.Delete)
 act_kind (asked.Collect key) = None
+act_kind (asked.Swap key expected value) = None
 
 -- ---- of a trace
+
+-- no operation of the trace is a swap
+abbrev pub HasNoSwaps : List Deed → Type 0
+HasNoSwaps t = (c o : ℕ) (start : Start) → start_of c o t ≡ Some start → is_swap start.action ≡ false
 
 -- the reading that gave a write its timestamp
 abbrev pub write_ask : List Deed → ℕ → Begun → Option Moment
@@ -89,8 +95,9 @@ moments_by p t number b (asked.Delete key) =
     begun_with number b key acts.Delete (write_ask t number b) (write_set p t number b key None) (return_end p t number b)
 moments_by p t number b (asked.Get key) = begun_with number b key acts.Get (read_ask t number b) None (return_end p t number b)
 moments_by p t number b (asked.Collect key) = []
+moments_by p t number b (asked.Swap key expected value) = []
 
--- the moments of an operation; a collection has none
+-- the moments of an operation; a collection and a swap have none
 abbrev pub moments_of : Params → List Deed → Begun → List Moment
 moments_of p t b = moments_by p t (length (begun_of b.start.before) + 1) b b.start.action
 
@@ -114,6 +121,7 @@ abbrev pub ask_moment : ℕ → ActKind → Course → Option Moment
 ask_moment number acts.Get course = ask_at number course.made course.version
 ask_moment number acts.Put course = ask_at number course.first_made course.first
 ask_moment number acts.Delete course = ask_at number course.first_made course.first
+ask_moment number (acts.Swap expected) course = None
 
 abbrev pub set_at : ℕ → Option Timestamp → Option FirstUpdate → Option Moment
 set_at number stamp None = None
@@ -122,6 +130,7 @@ set_at number (Some stamp) (Some u) = Some (moment u.at (points.Set number stamp
 
 abbrev pub set_moment : ℕ → ℕ → ActKind → Course → Option Moment
 set_moment number client acts.Get course = None
+set_moment number client (acts.Swap expected) course = None
 set_moment number client acts.Put course =
     set_at number (option_and_then (λ first. next_stamp first client) course.first) course.updated
 set_moment number client acts.Delete course =

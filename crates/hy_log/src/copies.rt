@@ -18,6 +18,18 @@ pub fn copy_of_action(alloc: Global, action: &Action) -> Result<Action, NoMemory
         Action::Get { key } => Ok(Action::Get { key: *key }),
         Action::Delete { key } => Ok(Action::Delete { key: *key }),
         Action::Collect { key } => Ok(Action::Collect { key: *key }),
+        Action::Swap {
+            key,
+            expected,
+            value,
+        } => {
+            let value = Blob::copy_of(alloc, value.bytes())?;
+            Ok(Action::Swap {
+                key: *key,
+                expected: *expected,
+                value,
+            })
+        }
     }
 }
 
@@ -34,5 +46,7 @@ pub(crate) fn copy_of_reply(alloc: Global, reply: &Reply) -> Result<Reply, NoMem
         Reply::Exhausted(stamp) => Ok(Reply::Exhausted(*stamp)),
         Reply::Absent(stamp) => Ok(Reply::Absent(*stamp)),
         Reply::Collected(count) => Ok(Reply::Collected(*count)),
+        Reply::Swapped(stamp) => Ok(Reply::Swapped(*stamp)),
+        Reply::Changed(stamp) => Ok(Reply::Changed(*stamp)),
     }
 }

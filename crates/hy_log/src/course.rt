@@ -12,8 +12,8 @@ pub struct Returned {
     pub reply: Reply,
 }
 
-/// The first update of an operation that the service served: the step of that, and whether it was
-/// applied.
+/// The first update or judged swap of an operation that the service served: the step of that, and
+/// whether it was applied.
 #[derive(Clone, Copy, Debug)]
 pub struct FirstUpdate {
     pub at: u64,
@@ -33,9 +33,9 @@ pub struct Course {
     pub version: Option<Stamp>,
     /// The step at which the answer was made that told it so first; 0 where there is none.
     pub made: u64,
-    /// Its first update that was served.
+    /// Its first update or judged swap that was served.
     pub updated: Option<FirstUpdate>,
-    /// Whether an update of it was applied.
+    /// Whether an update or a swap of it was applied.
     pub is_applied: bool,
 }
 
@@ -46,7 +46,7 @@ pub(crate) enum News {
     Heard { stamp: Stamp, made: u64 },
     /// It replied, at this step.
     Replied { at: u64, reply: Reply },
-    /// The service served its update at this step, and applied it or refused it.
+    /// The service served its update or judged its swap at this step, and applied it or refused it.
     Updated { at: u64, is_applied: bool },
 }
 

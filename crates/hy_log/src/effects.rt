@@ -32,7 +32,8 @@ pub struct Heard {
     pub made: u64,
 }
 
-/// The service served an operation's update, and applied it or refused it.
+/// The service served an operation's update or answered its swap, and applied it or refused it: a
+/// repeated swap is answered as it was judged.
 #[derive(Clone, Copy, Debug)]
 pub struct Updated {
     pub client: u32,

@@ -145,7 +145,8 @@ fn first_progress(action: &Action) -> Progress
 {
     let phase = match action {
         Action::Collect { .. } => Phase::Olds,
-        Action::Put { .. } | Action::Get { .. } | Action::Delete { .. } => Phase::Read,
+        Action::Put { .. } | Action::Get { .. } | Action::Delete { .. } | Action::Swap { .. } =>
+            Phase::Read,
     };
     Progress {
         phase,

@@ -30,7 +30,7 @@ pub(crate) fn act_kind(action: &Action) -> Option<(Key, ActKind)>
         Action::Put { key, .. } => Some((*key, ActKind::Put)),
         Action::Get { key } => Some((*key, ActKind::Get)),
         Action::Delete { key } => Some((*key, ActKind::Delete)),
-        Action::Collect { .. } => None,
+        Action::Collect { .. } | Action::Swap { .. } => None,
     }
 }
 
@@ -51,12 +51,13 @@ pub(crate) fn begin_moment(op: u32, started: &Started, key: Key, act: ActKind) -
 }
 
 /// The reading that gave a get its version, and a write its timestamp.
-pub(crate) fn ask_moment(op: u32, act: ActKind, course: &Course) -> Option<Moment>
-    ensures { result ≡ ask_moment op act course.now }
+pub(crate) fn ask_moment(op: u32, act: &ActKind, course: &Course) -> Option<Moment>
+    ensures { result ≡ ask_moment op act.now course.now }
 {
     match act {
         ActKind::Get => ask_at(op, course.made, course.version),
         ActKind::Put | ActKind::Delete => ask_at(op, course.first_made, course.first),
+        ActKind::Swap(_) => None,
     }
 }
 
@@ -72,11 +73,11 @@ fn ask_at(op: u32, step: u64, found: Option<Stamp>) -> Option<Moment>
 }
 
 /// The first update of a write that was served.
-pub(crate) fn set_moment(op: u32, client: u32, act: ActKind, course: &Course) -> Option<Moment>
-    ensures { result ≡ set_moment op client act course.now }
+pub(crate) fn set_moment(op: u32, client: u32, act: &ActKind, course: &Course) -> Option<Moment>
+    ensures { result ≡ set_moment op client act.now course.now }
 {
     match act {
-        ActKind::Get => None,
+        ActKind::Get | ActKind::Swap(_) => None,
         ActKind::Put | ActKind::Delete => {
             let FirstUpdate { at, is_applied } = course.updated?;
             let stamp = course.first?.after(client)?;

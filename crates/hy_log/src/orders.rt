@@ -1,7 +1,7 @@
 //! The orders of a run: for each key its operations, each where it took effect.
 
 ghost use Rattle.std.specs.Prelude.{◌≡◌, List, [], map, IfOk, OnOk};
-ghost use Rattle.hy_order.specs.ReportRanges.{register_key};
+ghost use Rattle.hy_order.specs.Keys.{register_key};
 ghost use Rattle.hy_trace.specs.Deeds.{Params as TraceParams, Deed};
 ghost use Rattle.hy_trace.specs.Report.{keys_of, order_of};
 ghost use Rattle.hy_trace.specs.Trace.{IsTrace};
@@ -18,7 +18,7 @@ use hy_record::{Action, Key};
 use std::alloc::Global;
 
 impl Log {
-    /// The order of each key that a put, a get or a delete names, by the keys' order.
+    /// The order of each key that a put, a get, a delete or a swap names, by the keys' order.
     ///
     /// It takes time n log n in the operations. More than 4,294,967,295 of them are refused as want of
     /// memory.
@@ -71,12 +71,15 @@ impl Log {
     }
 }
 
-/// The key of a put, a get or a delete.
+/// The key of a put, a get, a delete or a swap.
 fn register_key(action: &Action) -> Option<Key>
     ensures { result ≡ register_key action.now }
 {
     match action {
-        Action::Put { key, .. } | Action::Get { key } | Action::Delete { key } => Some(*key),
+        Action::Put { key, .. }
+        | Action::Get { key }
+        | Action::Delete { key }
+        | Action::Swap { key, .. } => Some(*key),
         Action::Collect { .. } => None,
     }
 }

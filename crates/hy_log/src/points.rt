@@ -12,6 +12,7 @@ ghost use Rattle.hy_log.specs.Points.{
   moments_from,
   operation_moments,
   acting_moments,
+  HasNoSwaps,
   point_at,
   points_of,
   step_cmp,
@@ -27,8 +28,8 @@ use hy_record::Key;
 use std::alloc::Global;
 
 impl Log {
-    /// The points of the puts, gets and deletes, in the order of their steps. The orders by them are
-    /// those of the run's report.
+    /// The points of the puts, gets and deletes, in the order of their steps. Where no operation of
+    /// the run is a swap, the orders by them are those of the run's report.
     ///
     /// It takes time n log n in the operations. More than 4,294,967,295 of them are refused as want of
     /// memory.
@@ -36,11 +37,11 @@ impl Log {
         ensures points { IfOk result (λ points. (p : TraceParams) (t : List Deed) →
             IsTrace p t → Keeps self.now p t → points ≡ points_of p t) }
         ensures atomic { IfOk result (λ points. (p : TraceParams) (t : List Deed) →
-            IsTrace p t → Keeps self.now p t → IsAtomicLog points) }
+            IsTrace p t → HasNoSwaps t → Keeps self.now p t → IsAtomicLog points) }
         ensures once { IfOk result (λ points. (p : TraceParams) (t : List Deed) →
-            IsTrace p t → Keeps self.now p t → AsksOnce points) }
+            IsTrace p t → HasNoSwaps t → Keeps self.now p t → AsksOnce points) }
         ensures order { IfOk result (λ points. (p : TraceParams) (t : List Deed) →
-            IsTrace p t → Keeps self.now p t → OrdersRun p t points) }
+            IsTrace p t → HasNoSwaps t → Keeps self.now p t → OrdersRun p t points) }
     {
         let moments = self.moments(alloc)?;
         let sorted = in_order(moments)?;
@@ -97,8 +98,8 @@ fn acting_moments(
     ensures { IfOk result (λ own. own.items ≡ acting_moments number started.now (key, act) course.now) }
 {
     let later = [
-        ask_moment(number, act, course),
-        set_moment(number, started.beginning.client, act, course),
+        ask_moment(number, &act, course),
+        set_moment(number, started.beginning.client, &act, course),
         end_moment(number, course),
     ];
     let mut own = Vec::new(alloc);

@@ -1,16 +1,15 @@
 -- Each event that is drawn is one that a schedule can have, and the drawer passes at most one message.
 use Rattle.std.proofs.Common.{◌≡◌, ℕ, zero, suc, ◌+◌, ◌<◌, ◌≤◌, ◌==◌, Bool, true, false, cond, List, [], ◌∷◌, refl, sym, ap, ◌∙◌, arith, IsTrue, lit<, lit≤}
-use Rattle.std.specs.Prelude.{nat_lt, nat_le, codes}
+use Rattle.std.specs.Prelude.{nat_lt, nat_le, not, codes}
 use Rattle.hex.specs.Hex.{IsBytes}
 use Rattle.hy_base.specs.declared.limits.TheConstants.{MAX_COUNT}
-use Rattle.hy_record.specs.Key.{is_key}
+use Rattle.hy_record.specs.Key.{is_key, is_cell}
 use Rattle.hy_record.specs.declared.action.Action.TheVariants.{Put, Get, Delete, Collect}
 use Rattle.hy_record.specs.declared.cloud.CloudSay.TheVariants.{Stored, Missing, Body}
-use Rattle.hy_sched.specs.Ranges.{is_join, IsTextEvent}
+use Rattle.hy_sched.specs.Ranges.{is_join, IsTextRequest, IsTextEvent}
 use Rattle.hy_sched.specs.Say.{IsTextSay}
 use Rattle.hy_sched.specs.declared.event.Event.{Event}
 use Rattle.hy_sched.specs.declared.event.Event.TheVariants.{Give}
-use Rattle.hy_text.specs.Action.{IsTextAction}
 use Rattle.hy_make.specs.declared.drawer.Drawer.{Drawer}
 use Rattle.hy_make.specs.Drawing.{draw, key_drawn, action_drawn, say_drawn, passed, invocation, timeout, next_delivery, any_delivery, loss, forgery, event_of_row, next_event}
 use Rattle.hy_make.specs.Making.{made_store}
@@ -37,12 +36,18 @@ key-text : (number : ℕ) → IsTrue (is_key (key_drawn number))
 unfolding key_drawn
 key-text number = either (λ key. IsTrue (is_key key)) (number == 0) (codes "a") (codes "b") refl refl
 
-action-text : (number : ℕ) (key : List ℕ) (byte : ℕ) → IsTrue (is_key key) → byte < 256 → IsTextAction (action_drawn number key byte)
+key-plain : (number : ℕ) → is_cell (key_drawn number) ≡ false
+unfolding key_drawn
+key-plain number = either (λ key. is_cell key ≡ false) (number == 0) (codes "a") (codes "b") refl refl
+
+action-text : (number : ℕ) (key : List ℕ) (byte : ℕ) → IsTrue (is_key key) → is_cell key ≡ false → byte < 256 → IsTextRequest (action_drawn number key byte)
 unfolding action_drawn
-action-text number key byte is small =
-    either IsTextAction (nat_le number 2) (Put key (byte ∷ [])) _ (is, record { short = lit≤ tt; bytes = one_byte byte small })
-    (either IsTextAction (nat_le number 5) (Get key) _ is
-    (either IsTextAction (number == 6) (Delete key) (Collect key) is is))
+action-text number key byte is plain small =
+    let kind : not (is_cell key) ≡ true = ap not plain in
+    either IsTextRequest (nat_le number 2) (Put key (byte ∷ [])) _
+    ((record { key = is; kind = kind }, record { short = lit≤ tt; bytes = one_byte byte small }), refl)
+    (either IsTextRequest (nat_le number 5) (Get key) _ (record { key = is; kind = refl }, refl)
+    (either IsTextRequest (number == 6) (Delete key) (Collect key) (record { key = is; kind = kind }, refl) (record { key = is; kind = refl }, refl)))
 
 say-text : (number : ℕ) → IsTextSay (say_drawn number)
 unfolding say_drawn
@@ -69,7 +74,7 @@ invocation-next drawer =
     let key = draw 2 client.1 in
     let kind = draw 8 key.1 in
     record {
-      text = ((omega arith, omega (arith, draw-below 4 drawer (lit< tt))), action-text kind.0 (key_drawn key.0) (draw 256 kind.1).0 (key-text key.0) (draw-below 256 kind.1 (lit< tt)));
+      text = ((omega arith, omega (arith, draw-below 4 drawer (lit< tt))), action-text kind.0 (key_drawn key.0) (draw 256 kind.1).0 (key-text key.0) (key-plain key.0) (draw-below 256 kind.1 (lit< tt)));
       other = refl;
       cursor = omega (arith, draw-cursor 4 drawer, draw-cursor 2 client.1, draw-cursor 8 key.1, draw-cursor 256 kind.1);
     }

@@ -5,10 +5,12 @@ use Rattle.std.specs.List.{list_any}
 use Rattle.std.proofs.Math.Nat.{sub-zero}
 use Rattle.std.proofs.lemmas.List.{length_push, append-nil}
 use Rattle.std.proofs.lemmas.Option.{same_Some}
-use Rattle.std.proofs.lemmas.Bool.{cases_Bool, le-leb, leb-true, eq-eqb, false≢true}
+use Rattle.std.proofs.lemmas.Bool.{cases_Bool, le-leb, leb-true, eq-eqb}
 use Rattle.hy_base.specs.declared.failure.NoMemory.{NoMemory}
 use Rattle.hy_record.specs.declared.action.Action.{Action}
 use Rattle.hy_record.specs.declared.message.MetaAsk.{MetaAsk}
+use Rattle.hy_protocol.specs.Operations.{suits}
+use Rattle.hy_world.proofs.Standing.{first-true}
 use Rattle.hy_trace.specs.declared.step.Step.{Step}
 use Rattle.hy_trace.specs.declared.step.Step.TheVariants as steps
 use Rattle.hy_trace.specs.declared.step.TheConstants.{MAX_GIVES}
@@ -126,10 +128,6 @@ begun-more c (Granted ask) t = omega arith
 begun-more c (Stopped b) t = omega arith
 begun-more c Nothing t = omega arith
 
-first-true : (a b : Bool) → (a && b) ≡ true → (a ≡ true) × (b ≡ true)
-first-true true b is = (refl, is)
-first-true false b is = absurd (false≢true is)
-
 joined-keeps : (c : ℕ) (d : Deed) (t : List Deed) → is_joined c t ≡ true → is_joined c (d ∷ t) ≡ true
 joined-keeps c d t is =
     let parts = first-true (nat_le 1 c) (nat_le c (joined t)) is in
@@ -158,13 +156,14 @@ unfolding begun
 began-some c o a t = rw (eq-eqb c c refl) (omega arith)
 
 -- a free client that is asked has begun an operation
-has-begun-now : (p : Params) (c : ℕ) (a : Action) (before : List Step) → is_free p c (trace_of p before) ≡ true → HasBegun p c (steps.Invoke c a ∷ before)
+has-begun-now : (p : Params) (c : ℕ) (a : Action) (before : List Step) → (is_free p c (trace_of p before) && suits a) ≡ true → HasBegun p c (steps.Invoke c a ∷ before)
 unfolding trace_of deed_of
-has-begun-now p c a before free =
+has-begun-now p c a before begins =
     let t = trace_of p before in
+    let free = (first-true (is_free p c t) (suits a) begins).0 in
     let up = (first-true (is_up c t) ((begun c t == 0) || is_some (reply_of p c (begun c t) t)) (free-parts p c t free)).0 in
     let joined_ = (first-true (is_joined c t) (not (list_any (stops c) t)) (up-parts c t up)).0 in
-    rw free (record { joined_is = joined-keeps c (Began c (begun c t + 1) a) t joined_; begun_is = began-some c (begun c t + 1) a t })
+    rw begins (record { joined_is = joined-keeps c (Began c (begun c t + 1) a) t joined_; begun_is = began-some c (begun c t + 1) a t })
 
 gives-stop : (fuel : ℕ) (p : Params) (c n : ℕ) (mid : List Step) → goes_on p c n mid ≡ false → with_gives fuel p c n mid ≡ mid
 unfolding with_gives
@@ -228,12 +227,12 @@ module _ (M : Type 0) (serves : M → List MetaAsk → Type 0) (given : M → �
   gives-over p before most c first i s (inr none) g = subst (λ (x : List Step). Replays serves given p x s) (sym (g.rest ∙ gives-stop (most - i) p c (first + i) g.mid (none g.mid g.begun_is g.replays))) g.replays
 
   -- the operation began exactly where the log of those that began is longer
-  began-more : (p : Params) (c : ℕ) (a : Action) (t : List Deed) (b : Bool) → is_free p c t ≡ b → length (started_of (deed_of p (steps.Invoke c a) t ∷ t)) ≡ length (started_of t) + cond b 1 0
+  began-more : (p : Params) (c : ℕ) (a : Action) (t : List Deed) (b : Bool) → (is_free p c t && suits a) ≡ b → length (started_of (deed_of p (steps.Invoke c a) t ∷ t)) ≡ length (started_of t) + cond b 1 0
   unfolding deed_of started_of
   began-more p c a t true is = rw is (length_push (started_of t) (record { step = length t + 1; beginning = record { client = c; op = begun c t + 1; action = a } }))
   began-more p c a t false is = rw is (rw append-nil (sym (add-zero (length (started_of t)))))
 
-  counts : (p : Params) (c : ℕ) (a : Action) (before : List Step) (s u : Simulation M) (b : Bool) → is_free p c (trace_of p before) ≡ b → Replays serves given p before s → Replays serves given p (steps.Invoke c a ∷ before) u → length u.log.starts.items ≡ length s.log.starts.items + cond b 1 0
+  counts : (p : Params) (c : ℕ) (a : Action) (before : List Step) (s u : Simulation M) (b : Bool) → (is_free p c (trace_of p before) && suits a) ≡ b → Replays serves given p before s → Replays serves given p (steps.Invoke c a ∷ before) u → length u.log.starts.items ≡ length s.log.starts.items + cond b 1 0
   unfolding trace_of
   counts p c a before s u b is r q = ap length q.log_keeps.starts_are ∙ began-more p c a (trace_of p before) b is ∙ ap (λ (k : ℕ). k + cond b 1 0) (ap length (sym r.log_keeps.starts_are))
 
@@ -242,7 +241,7 @@ module _ (M : Type 0) (serves : M → List MetaAsk → Type 0) (given : M → �
   unfolding with_do
   do-began p c first a before s u r q more first_is =
       let count : first ≡ length (messages_of p (trace_of p before)) + 1 = first_is ∙ ap (λ (k : ℕ). k + 1) (sent-count p (trace_of p before) s.log r.log_keeps) in
-      elim (cases_Bool (is_free p c (trace_of p before))) [
+      elim (cases_Bool (is_free p c (trace_of p before) && suits a)) [
         | inl free ↦ (has-begun-now p c a before free, ap (λ (n : ℕ). with_gives MAX_GIVES p c n (steps.Invoke c a ∷ before)) count ∙ sym (ap (λ (b : Bool). cond b (with_gives MAX_GIVES p c (length (messages_of p (trace_of p before)) + 1) (steps.Invoke c a ∷ before)) (steps.Invoke c a ∷ before)) free))
         | inr busy ↦ let same = counts p c a before s u false busy r q in absurd (omega arith)
       ]
@@ -250,7 +249,7 @@ module _ (M : Type 0) (serves : M → List MetaAsk → Type 0) (given : M → �
   pub do-refused : (p : Params) (c : ℕ) (a : Action) (before : List Step) (s u : Simulation M) → Replays serves given p before s → Replays serves given p (steps.Invoke c a ∷ before) u → length u.log.starts.items ≤ length s.log.starts.items → steps.Invoke c a ∷ before ≡ with_do p c a before
   unfolding with_do
   do-refused p c a before s u r q same =
-      elim (cases_Bool (is_free p c (trace_of p before))) [
+      elim (cases_Bool (is_free p c (trace_of p before) && suits a)) [
         | inl free ↦ let more = counts p c a before s u true free r q in absurd (omega arith)
         | inr busy ↦ sym (ap (λ (b : Bool). cond b (with_gives MAX_GIVES p c (length (messages_of p (trace_of p before)) + 1) (steps.Invoke c a ∷ before)) (steps.Invoke c a ∷ before)) busy)
       ]

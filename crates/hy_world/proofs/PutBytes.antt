@@ -1,20 +1,23 @@
--- The values of a schedule's puts consist of bytes.
-use Rattle.std.proofs.Common.{◌≡◌, ℕ, zero, suc, ◌+◌, ◌≤◌, Bool, true, false, List, [], ◌∷◌, length, Option, Some, None, cond, subst, inl, inr, arith}
+-- The values of a schedule's puts and swaps consist of bytes.
+use Rattle.std.proofs.Common.{◌≡◌, ℕ, zero, suc, ◌+◌, ◌≤◌, Bool, ◌&&◌, true, false, List, [], ◌∷◌, length, Option, Some, None, cond, refl, subst, inl, inr, arith}
 use Rattle.std.specs.List.{AllByRecursion}
 use Rattle.std.proofs.lemmas.Option.{none-some, same_Some}
 use Rattle.hex.specs.Hex.{IsBytes}
 use Rattle.hy_gf.specs.Gf.{IsElement}
 use Rattle.hy_code.specs.Polynomial.{AreElements}
-use Rattle.hy_base.specs.declared.limits.TheConstants.{MAX_TEXT_VALUE}
+use Rattle.hy_base.specs.declared.limits.TheConstants.{MAX_SESSIONS, MAX_TEXT_VALUE}
 use Rattle.hy_record.specs.declared.action.Action.{Action}
 use Rattle.hy_record.specs.declared.action.Action.TheVariants as asked
 use Rattle.hy_record.specs.declared.turn.Cue.{Cue}
 use Rattle.hy_record.specs.declared.turn.Cue.TheVariants as cues
-use Rattle.hy_text.specs.Action.{IsTextAction}
+use Rattle.hy_text.specs.Action.{IsTextAction, action_verb, has_verb}
+use Rattle.hy_text.specs.declared.action.Verbs.TheVariants.{WithoutSwaps}
+use Rattle.hy_client.specs.Sizes.{is_swap}
 use Rattle.hy_sched.specs.declared.params.Params.{Params as StoreParams}
 use Rattle.hy_sched.specs.declared.event.Event.{Event}
 use Rattle.hy_sched.specs.declared.event.Event.TheVariants as events
 use Rattle.hy_sched.specs.Ranges.{IsTextEvent}
+use Rattle.hy_protocol.specs.Operations.{suits, value_of}
 use Rattle.hy_trace.specs.declared.step.Step.{Step}
 use Rattle.hy_trace.specs.declared.step.Step.TheVariants as steps
 use Rattle.hy_trace.specs.declared.step.TheConstants.{MAX_GIVES}
@@ -27,12 +30,13 @@ use Rattle.hy_trace.proofs.Growth.{or-cases}
 use Rattle.hy_world.specs.Schedules.{first_step, steps_with, steps_of, HasTextValue}
 use Rattle.hy_world.specs.Seats.{value_size}
 
--- the value of a put consists of bytes
+-- the value of a put or a swap consists of bytes
 abbrev HasPutBytes : Action → Type 0
 HasPutBytes (asked.Put key value) = AreElements IsElement value
 HasPutBytes (asked.Get key) = Unit {0}
 HasPutBytes (asked.Delete key) = Unit {0}
 HasPutBytes (asked.Collect key) = Unit {0}
+HasPutBytes (asked.Swap key expected value) = AreElements IsElement value
 
 -- an operation that begins at the deed is asked with bytes
 abbrev BeginsWithBytes : Deed → Type 0
@@ -77,7 +81,7 @@ delivery-begins p t made (Some (Answer reply)) = hand-begins p reply.client made
 deed-begins : (p : Params) (step : Step) (t : List Deed) → AsksWithBytes step → BeginsWithBytes (deed_of p step t)
 unfolding deed_of
 deed-begins p steps.Join t asks = either-way _ Joined Nothing tt tt
-deed-begins p (steps.Invoke c a) t asks = either-way (is_free p c t) (Began c (begun c t + 1) a) Nothing asks tt
+deed-begins p (steps.Invoke c a) t asks = either-way (is_free p c t && suits a) (Began c (begun c t + 1) a) Nothing asks tt
 deed-begins p (steps.Give number) t asks = delivery-begins p t (step_of p number t) (message_at number (messages_of p t))
 deed-begins p (steps.Lie reply) t asks = either-way (p.is_liar reply.cloud) (hand p reply.client 0 (cues.Cloud reply) t) Nothing (hand-begins p reply.client 0 (cues.Cloud reply) t) tt
 deed-begins p (steps.Tick c) t asks = hand-begins p c 0 cues.Tick t
@@ -107,7 +111,14 @@ started-bytes p (step ∷ before) c o s all is =
     ]
 
 are-put-bytes : (p : Params) (run : List Step) → AllByRecursion AsksWithBytes run → ArePutBytes (trace_of p run)
-are-put-bytes p run all = λ c o s key value began is. subst HasPutBytes is (started-bytes p run c o s all began)
+are-put-bytes p run all = λ c o s value began is. stored s.action value is (started-bytes p run c o s all began)
+  where
+    stored : (a : Action) (value : List ℕ) → value_of a ≡ Some value → HasPutBytes a → AreElements IsElement value
+    stored (asked.Put key v) value is bytes_are = subst (AreElements IsElement) (same_Some v value is) bytes_are
+    stored (asked.Swap key expected v) value is bytes_are = subst (AreElements IsElement) (same_Some v value is) bytes_are
+    stored (asked.Get key) value is bytes_are = absurd (none-some value is)
+    stored (asked.Delete key) value is bytes_are = absurd (none-some value is)
+    stored (asked.Collect key) value is bytes_are = absurd (none-some value is)
 
 -- ---- events
 
@@ -123,7 +134,7 @@ gives-bytes (suc fuel) p c n mid all = asks-either (goes_on p c n mid) (with_giv
 do-bytes : (p : Params) (c : ℕ) (a : Action) (before : List Step) → HasPutBytes a → AllByRecursion AsksWithBytes before → AllByRecursion AsksWithBytes (with_do p c a before)
 unfolding with_do
 do-bytes p c a before asks all =
-    asks-either (is_free p c (trace_of p before)) (with_gives MAX_GIVES p c (length (messages_of p (trace_of p before)) + 1) (steps.Invoke c a ∷ before)) (steps.Invoke c a ∷ before)
+    asks-either (is_free p c (trace_of p before) && suits a) (with_gives MAX_GIVES p c (length (messages_of p (trace_of p before)) + 1) (steps.Invoke c a ∷ before)) (steps.Invoke c a ∷ before)
     (gives-bytes MAX_GIVES p c (length (messages_of p (trace_of p before)) + 1) (steps.Invoke c a ∷ before) (asks, all)) (asks, all)
 
 event-bytes : (p : Params) (event : Event) (before : List Step) → AsksWithBytes (first_step event) → AllByRecursion AsksWithBytes before → AllByRecursion AsksWithBytes (steps_with p event before)
@@ -140,15 +151,16 @@ elements : (xs : List ℕ) → IsBytes xs → AreElements IsElement xs
 elements [] bytes_are = tt
 elements (x ∷ xs) bytes_are = (bytes_are 0, elements xs (λ i. bytes_are (suc i)))
 
-action-bytes : (a : Action) → IsTextAction a → HasPutBytes a
-action-bytes (asked.Put key value) is = elements value is.1.bytes
-action-bytes (asked.Get key) is = tt
-action-bytes (asked.Delete key) is = tt
-action-bytes (asked.Collect key) is = tt
+action-bytes : (last : ℕ) (a : Action) → IsTextAction last a → HasPutBytes a
+action-bytes last (asked.Put key value) is = elements value is.1.bytes
+action-bytes last (asked.Get key) is = tt
+action-bytes last (asked.Delete key) is = tt
+action-bytes last (asked.Collect key) is = tt
+action-bytes last (asked.Swap key expected value) is = elements value is.2.bytes
 
 asks-bytes : (params : StoreParams) (event : Event) → IsTextEvent params event → AsksWithBytes (first_step event)
-asks-bytes params (events.Do c a) is = action-bytes a is.1
-asks-bytes params (events.Invoke c a) is = action-bytes a is.1
+asks-bytes params (events.Do c a) is = action-bytes MAX_SESSIONS a is.1.0
+asks-bytes params (events.Invoke c a) is = action-bytes MAX_SESSIONS a is.1.0
 asks-bytes params events.Join is = tt
 asks-bytes params (events.Give number) is = tt
 asks-bytes params (events.Lie cloud c op key stamp say) is = tt
@@ -164,15 +176,24 @@ pub schedule-bytes : (p : Params) (params : StoreParams) (list : List Event) →
 schedule-bytes p params list text = are-put-bytes p (steps_of p list []) (run-bytes p params list [] text tt)
 
 -- a value that a text can tell is not too large
-small-action : (a : Action) → IsTextAction a → value_size a ≤ MAX_TEXT_VALUE
-small-action (asked.Put key value) is = is.1.short
-small-action (asked.Get key) is = omega arith
-small-action (asked.Delete key) is = omega arith
-small-action (asked.Collect key) is = omega arith
+small-action : (last : ℕ) (a : Action) → IsTextAction last a → value_size a ≤ MAX_TEXT_VALUE
+small-action last (asked.Put key value) is = is.1.short
+small-action last (asked.Get key) is = omega arith
+small-action last (asked.Delete key) is = omega arith
+small-action last (asked.Collect key) is = omega arith
+small-action last (asked.Swap key expected value) is = is.2.short
+
+-- a schedule has no word for a swap
+unswapped : (a : Action) → has_verb WithoutSwaps (action_verb a) ≡ true → is_swap a ≡ false
+unswapped (asked.Put key value) has = refl
+unswapped (asked.Get key) has = refl
+unswapped (asked.Delete key) has = refl
+unswapped (asked.Collect key) has = refl
+unswapped (asked.Swap key expected value) has = absurd cc
 
 pub small-event : (params : StoreParams) (event : Event) → IsTextEvent params event → HasTextValue event
-small-event params (events.Do c a) is = small-action a is.1
-small-event params (events.Invoke c a) is = small-action a is.1
+small-event params (events.Do c a) is = (small-action MAX_SESSIONS a is.1.0, unswapped a is.1.1)
+small-event params (events.Invoke c a) is = (small-action MAX_SESSIONS a is.1.0, unswapped a is.1.1)
 small-event params events.Join is = tt
 small-event params (events.Give number) is = tt
 small-event params (events.Lie cloud c op key stamp say) is = tt

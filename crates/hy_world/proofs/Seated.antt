@@ -8,7 +8,7 @@ use Rattle.hy_record.specs.declared.action.Action.{Action}
 use Rattle.hy_record.specs.declared.action.Action.TheVariants as asked
 use Rattle.hy_record.specs.declared.turn.Cue.{Cue}
 use Rattle.hy_protocol.specs.Inputs.{addresses}
-use Rattle.hy_protocol.specs.Operations.{key_of, replied}
+use Rattle.hy_protocol.specs.Operations.{key_of, suits, replied}
 use Rattle.hy_protocol.specs.Progress.{Progress}
 use Rattle.hy_protocol.specs.Session.{Session, takes, takes_by, session_after, session_invoked, session_stopped, is_idle, is_running, reply_by, session_progress, progress_by}
 use Rattle.hy_client.specs.declared.client.Client.{Client}
@@ -169,37 +169,49 @@ small-value (asked.Put key value) small = rw (le-ltb MAX_VALUE (length value) sm
 small-value (asked.Get key) small = refl
 small-value (asked.Delete key) small = refl
 small-value (asked.Collect key) small = refl
+small-value (asked.Swap key expected value) small = rw (le-ltb MAX_VALUE (length value) small) refl
+
+all-true : {b : Bool} → b ≡ true → (b && true) ≡ true
+all-true is = ap (λ (x : Bool). x && true) is
+
+none-true : (b : Bool) → (b && false) ≡ false
+none-true true = refl
+none-true false = refl
 
 -- a client that refuses nothing is idle, and one that refuses a value that is not too large is not
-pub unrefused-idle : (s : Session) (a : Action) → invoke_refusal s a ≡ None → true ≡ is_idle s
+pub unrefused-idle : (s : Session) (a : Action) → invoke_refusal s a ≡ None → true ≡ (is_idle s && suits a)
 unfolding is_idle is_running
-unrefused-idle s a is = by-tests s.stopped (is_running s) refl refl is
+unrefused-idle s a is = by-tests s.stopped (is_running s) (suits a) refl refl refl is
   where
-    by-tests : (x y : Bool) → s.stopped ≡ x → is_running s ≡ y → cond x (Some faults.Stopped) (cond y (Some (faults.Busy s.begun)) (size_refusal a)) ≡ None → true ≡ (not s.stopped && ((s.begun == 0) || is_some (reply_by s s.inputs s.action)))
-    by-tests true y stopped_ runs e = absurd (none-some faults.Stopped (sym e))
-    by-tests false true stopped_ runs e = absurd (none-some (faults.Busy s.begun) (sym e))
-    by-tests false false stopped_ runs e = rw stopped_ (neither-not (s.begun == 0) (is_some (reply_by s s.inputs s.action)) runs)
+    by-tests : (x y z : Bool) → s.stopped ≡ x → is_running s ≡ y → suits a ≡ z → cond x (Some faults.Stopped) (cond y (Some (faults.Busy s.begun)) (cond (not z) (Some faults.WrongKey) (size_refusal a))) ≡ None
+        → true ≡ ((not s.stopped && ((s.begun == 0) || is_some (reply_by s s.inputs s.action))) && suits a)
+    by-tests true y z stopped_ runs fits e = absurd (none-some faults.Stopped (sym e))
+    by-tests false true z stopped_ runs fits e = absurd (none-some (faults.Busy s.begun) (sym e))
+    by-tests false false false stopped_ runs fits e = absurd (none-some faults.WrongKey (sym e))
+    by-tests false false true stopped_ runs fits e = rw (stopped_, fits) (sym (all-true (sym (neither-not (s.begun == 0) (is_some (reply_by s s.inputs s.action)) runs))))
 
-refused-idle : (s : Session) (a : Action) (fault : InvokeFault) → value_size a ≤ MAX_VALUE → invoke_refusal s a ≡ Some fault → false ≡ is_idle s
+refused-idle : (s : Session) (a : Action) (fault : InvokeFault) → value_size a ≤ MAX_VALUE → invoke_refusal s a ≡ Some fault → false ≡ (is_idle s && suits a)
 unfolding is_idle is_running
-refused-idle s a fault small is = by-tests s.stopped (is_running s) refl refl is
+refused-idle s a fault small is = by-tests s.stopped (is_running s) (suits a) refl refl refl is
   where
-    by-tests : (x y : Bool) → s.stopped ≡ x → is_running s ≡ y → cond x (Some faults.Stopped) (cond y (Some (faults.Busy s.begun)) (size_refusal a)) ≡ Some fault → false ≡ (not s.stopped && ((s.begun == 0) || is_some (reply_by s s.inputs s.action)))
-    by-tests true y stopped_ runs e = rw stopped_ refl
-    by-tests false true stopped_ runs e = rw stopped_ (neither (s.begun == 0) (is_some (reply_by s s.inputs s.action)) runs)
-    by-tests false false stopped_ runs e = absurd (none-some fault (sym (small-value a small) ∙ e))
+    by-tests : (x y z : Bool) → s.stopped ≡ x → is_running s ≡ y → suits a ≡ z → cond x (Some faults.Stopped) (cond y (Some (faults.Busy s.begun)) (cond (not z) (Some faults.WrongKey) (size_refusal a))) ≡ Some fault
+        → false ≡ ((not s.stopped && ((s.begun == 0) || is_some (reply_by s s.inputs s.action))) && suits a)
+    by-tests true y z stopped_ runs fits e = rw stopped_ refl
+    by-tests false true z stopped_ runs fits e = rw stopped_ (ap (λ (b : Bool). b && suits a) (neither (s.begun == 0) (is_some (reply_by s s.inputs s.action)) runs))
+    by-tests false false false stopped_ runs fits e = rw fits (sym (none-true (not s.stopped && ((s.begun == 0) || is_some (reply_by s s.inputs s.action)))))
+    by-tests false false true stopped_ runs fits e = absurd (none-some fault (sym (small-value a small) ∙ e))
 
-pub begun-idle : {T : Type 0} (s : Session) (a : Action) (outs : T) → IfSome (invoke_refusal s a) (λ fault. ◌≡◌ {A = Result T InvokeFault} (Ok outs) (Err fault)) → true ≡ is_idle s
+pub begun-idle : {T : Type 0} (s : Session) (a : Action) (outs : T) → IfSome (invoke_refusal s a) (λ fault. ◌≡◌ {A = Result T InvokeFault} (Ok outs) (Err fault)) → true ≡ (is_idle s && suits a)
 begun-idle {T} s a outs is = by-refusal (invoke_refusal s a) refl is
   where
-    by-refusal : (o : Option InvokeFault) → invoke_refusal s a ≡ o → IfSome o (λ fault. ◌≡◌ {A = Result T InvokeFault} (Ok outs) (Err fault)) → true ≡ is_idle s
+    by-refusal : (o : Option InvokeFault) → invoke_refusal s a ≡ o → IfSome o (λ fault. ◌≡◌ {A = Result T InvokeFault} (Ok outs) (Err fault)) → true ≡ (is_idle s && suits a)
     by-refusal None e none = unrefused-idle s a e
     by-refusal (Some fault) e both = cc
 
-pub busy-idle : (s : Session) (a : Action) (fault : InvokeFault) → value_size a ≤ MAX_VALUE → is_no_memory fault ≡ false → (invoke_refusal s a ≡ None → fault ≡ faults.NoMemory) → false ≡ is_idle s
+pub busy-idle : (s : Session) (a : Action) (fault : InvokeFault) → value_size a ≤ MAX_VALUE → is_no_memory fault ≡ false → (invoke_refusal s a ≡ None → fault ≡ faults.NoMemory) → false ≡ (is_idle s && suits a)
 busy-idle s a fault small memory accepted = by-refusal (invoke_refusal s a) refl
   where
-    by-refusal : (o : Option InvokeFault) → invoke_refusal s a ≡ o → false ≡ is_idle s
+    by-refusal : (o : Option InvokeFault) → invoke_refusal s a ≡ o → false ≡ (is_idle s && suits a)
     by-refusal None e = absurd (false≢true (sym memory ∙ ap is_no_memory (accepted e)))
     by-refusal (Some x) e = refused-idle s a x small e
 

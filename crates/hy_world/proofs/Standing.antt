@@ -15,7 +15,7 @@ use Rattle.hy_record.specs.declared.turn.Cue.TheVariants as cues
 use Rattle.hy_record.specs.declared.turn.Out.{Out}
 use Rattle.hy_record.specs.declared.turn.Turn.{Turn}
 use Rattle.hy_protocol.specs.Cloud.{cloud_answer}
-use Rattle.hy_protocol.specs.Operations.{sends_of}
+use Rattle.hy_protocol.specs.Operations.{suits, sends_of}
 use Rattle.hy_protocol.specs.Session.{Session, session_stopped, session_invoked, invoked_sends, is_idle, session_after, session_turn, turn_sends, turn_reply, takes, is_running, reply_by}
 use Rattle.hy_cloud.specs.declared.cloud.Cloud.{Cloud}
 use Rattle.hy_cloud.specs.Objects.{StandsForWishes}
@@ -308,9 +308,13 @@ invoked-begun : (p : Params) (c : ℕ) (a : Action) (t : List Deed) → (session
 unfolding session_invoked session_of
 invoked-begun p c a t = refl
 
+pub first-true : (a b : Bool) → (a && b) ≡ true → (a ≡ true) × (b ≡ true)
+first-true true b is = (refl, is)
+first-true false b is = absurd (false≢true is)
+
 -- the client begins the operation
 pub record IsBegun (a : Action) (x y : Seat) (op : ℕ) (outs : List Out) : Type 0 where
-  pub idle : (s : Session) → StandsForSeat x s → true ≡ is_idle s
+  pub idle : (s : Session) → StandsForSeat x s → true ≡ (is_idle s && suits a)
   pub after : (s : Session) → StandsForSeat x s → StandsForSeat y (session_invoked s a)
   pub sends : (s : Session) → StandsForSeat x s → outs ≡ invoked_sends s a
   pub number : (s : Session) → StandsForSeat y s → op ≡ s.begun
@@ -323,10 +327,11 @@ unfolding deed_of sent_at
 invoking p t params seats clouds c a x y outs op e low high is trace begins sent began returned hears updated r =
     let s = session_of p c t in
     let at_it : StandsForSeat x s = seat-at p t seats c x low high is r.standing in
-    let free : is_free p c t ≡ true = free-same p c t (is-low c low) (is-high p t params seats clouds c high r) ∙ sym (begins.idle s at_it) in
+    let begun_ : (is_free p c t && suits a) ≡ true = ap (λ (b : Bool). b && suits a) (free-same p c t (is-low c low) (is-high p t params seats clouds c high r)) ∙ sym (begins.idle s at_it) in
+    let free : is_free p c t ≡ true = (first-true (is_free p c t) (suits a) begun_).0 in
     let idle = free-idle p c t trace free in
     let silent = began-silent c (begun c t + 1) a t in
-    subst (λ (b : Bool). IsDone p (cond b (Began c (begun c t + 1) a) Nothing) t e params (set seats (c - 1) y) clouds) (sym free)
+    subst (λ (b : Bool). IsDone p (cond b (Began c (begun c t + 1) a) Nothing) t e params (set seats (c - 1) y) clouds) (sym begun_)
     (record {
       effects = record {
         posts = sent ∙ ap (λ (o : List Out). map post_of (map message_of o)) (begins.sends s at_it ∙ invoked-sends p c a t);
@@ -342,13 +347,13 @@ invoking p t params seats clouds c a x y outs op e low high is trace begins sent
     })
 
 pub refusing : (p : Params) (t : List Deed) (params : StoreParams) (seats : List Seat) (clouds : List Cloud) (c : ℕ) (a : Action) (x y : Seat) (e : Effects) →
-    c ≢ 0 → c ≤ length seats → x ≡ slice_index_or seats (c - 1) x → ((s : Session) → StandsForSeat x s → false ≡ is_idle s) → ((s : Session) → StandsForSeat x s → StandsForSeat y s) → AreNone e →
+    c ≢ 0 → c ≤ length seats → x ≡ slice_index_or seats (c - 1) x → ((s : Session) → StandsForSeat x s → false ≡ (is_idle s && suits a)) → ((s : Session) → StandsForSeat x s → StandsForSeat y s) → AreNone e →
     NodesRun p t params seats clouds → IsDone p (deed_of p (steps.Invoke c a) t) t e params (set seats (c - 1) y) clouds
 unfolding deed_of sent_at
 refusing p t params seats clouds c a x y e low high is idle turns n r =
     let s = session_of p c t in
     let at_it : StandsForSeat x s = seat-at p t seats c x low high is r.standing in
-    let busy : is_free p c t ≡ false = free-same p c t (is-low c low) (is-high p t params seats clouds c high r) ∙ sym (idle s at_it) in
+    let busy : (is_free p c t && suits a) ≡ false = ap (λ (b : Bool). b && suits a) (free-same p c t (is-low c low) (is-high p t params seats clouds c high r)) ∙ sym (idle s at_it) in
     subst (λ (b : Bool). IsDone p (cond b (Began c (begun c t + 1) a) Nothing) t e params (set seats (c - 1) y) clouds) (sym busy)
     (record {
       effects = record { posts = n.posts; began = n.began; returned = n.returned; heard = n.heard; updated = n.updated };

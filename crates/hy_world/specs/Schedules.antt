@@ -1,5 +1,5 @@
 -- What the events of a schedule are to a trace.
-use Rattle.std.specs.Prelude.{ℕ, ◌≤◌, Bool, ◌||◌, nat_le, List, [], ◌∷◌}
+use Rattle.std.specs.Prelude.{◌≡◌, ℕ, ◌≤◌, Bool, false, ◌||◌, nat_le, List, [], ◌∷◌}
 use Rattle.hy_base.specs.declared.limits.TheConstants.{MAX_TEXT_VALUE}
 use Rattle.hy_base.specs.Shape.{cloud_count}
 use Rattle.hy_trace.specs.declared.step.Step.{Step}
@@ -14,6 +14,8 @@ use Rattle.hy_sched.specs.Params.{is_liar}
 use Rattle.hy_order.specs.declared.report.Report.{Report}
 use Rattle.hy_trace.specs.Schedule.{trace_of}
 use Rattle.hy_trace.specs.Report.{report_of}
+use Rattle.hy_client.specs.Sizes.{is_swap}
+use Rattle.hy_record.specs.declared.action.Action.{Action}
 use Rattle.hy_world.specs.Seats.{value_size}
 
 -- the cloud is Byzantine; so is each that the store has not, since nothing that it is asked has an effect
@@ -56,11 +58,15 @@ unfoldable pub steps_of : Params → List Event → List Step → List Step
 steps_of p [] before = before
 steps_of p (event ∷ later) before = steps_of p later (steps_with p event before)
 
--- the event has no value with more bytes than a schedule can write
+-- a schedule can write what is asked for: its value has no more bytes than that, and it is no swap
+abbrev pub IsWritable : Action → Type 0
+IsWritable action = (value_size action ≤ MAX_TEXT_VALUE) × (is_swap action ≡ false)
+
+-- a schedule can write what the event asks for
 abbrev pub HasTextValue : Event → Type 0
 HasTextValue events.Join = Unit {0}
-HasTextValue (events.Do client action) = value_size action ≤ MAX_TEXT_VALUE
-HasTextValue (events.Invoke client action) = value_size action ≤ MAX_TEXT_VALUE
+HasTextValue (events.Do client action) = IsWritable action
+HasTextValue (events.Invoke client action) = IsWritable action
 HasTextValue (events.Give number) = Unit {0}
 HasTextValue (events.Lie cloud client op key stamp say) = Unit {0}
 HasTextValue (events.Tick client) = Unit {0}

@@ -26,12 +26,13 @@ pub record StandsForSeat (seat : Seat) (s : Session) : Type 0 where
 abbrev pub begun_at : Seat → ℕ
 begun_at seat = begun_of seat.client
 
--- the bytes of the value of a put
+-- the bytes of the value of a put or a swap
 abbrev pub value_size : Action → ℕ
 value_size (asked.Put key value) = length value
 value_size (asked.Get key) = 0
 value_size (asked.Delete key) = 0
 value_size (asked.Collect key) = 0
+value_size (asked.Swap key expected value) = length value
 
 -- the fault is want of memory
 abbrev pub is_no_memory : InvokeFault → Bool
@@ -39,6 +40,7 @@ is_no_memory faults.NoMemory = true
 is_no_memory faults.Stopped = false
 is_no_memory (faults.Busy op) = false
 is_no_memory (faults.TooLarge size) = false
+is_no_memory faults.WrongKey = false
 
 -- what the client's operation of this number is told of the record by an input, if it takes it
 abbrev pub heard_by : Session → ℕ → ℕ → ℕ → Cue → Option Heard

@@ -10,11 +10,12 @@ ghost use Rattle.hy_trace.specs.Trace.{IsTrace};
 ghost use Rattle.hy_record.specs.declared.message.MetaAsk.{MetaAsk};
 ghost use Rattle.hy_meta.specs.Service.{record_stamp};
 ghost use Rattle.hy_world.specs.Schedules.{params_of};
-ghost use Rattle.hy_log.specs.Effects.{post_of, updated_by};
+ghost use Rattle.hy_log.specs.Effects.{post_of, updated_by, answered_swap, is_swapped};
+ghost use Rattle.hy_meta.specs.Meta.{service_answers};
 ghost use Rattle.hy_log.specs.Kept.{post_in};
 ghost use Rattle.hy_trace.specs.Held.{held_of, held_with};
 ghost use Rattle.hy_world.specs.Nodes.{addressee, NodesStand};
-ghost use Rattle.hy_world.specs.Machines.{MachinesStand, MachinesDo};
+ghost use Rattle.hy_world.specs.Machines.{MachinesStand, MachinesDo, plain_update};
 
 use crate::nodes::Nodes;
 use hy_base::NoMemory;
@@ -83,8 +84,9 @@ impl<M: Meta + Drop> Machines<M> {
     fn serve(&mut self, alloc: Global, ask: &MetaAsk) -> Result<Effects, NoMemory>
         ensures { MachinesDo M.served M.given (λ p t. Served ask.now) self.old self.new result }
     {
-        let updated = self.updated_by(ask);
+        let attempted = self.attempted_by(ask);
         let says = self.service.serve(alloc, ask)?;
+        let updated = updated_by(ask, attempted, &says);
         let posts = posts_of_says(alloc, says)?;
         Ok(Effects {
             posts,
@@ -108,9 +110,10 @@ impl<M: Meta + Drop> Machines<M> {
     }
 
     /// Which operation's update the request is, and whether the service will apply it.
-    fn updated_by(&self, ask: &MetaAsk) -> Option<Updated>
+    #[tactic(auto, unfolding(hy_meta::specs::Service::record_stamp))]
+    fn attempted_by(&self, ask: &MetaAsk) -> Option<Updated>
         ensures { (asks : List MetaAsk) → M.served self.now.service asks →
-            result ≡ updated_by ask.now asks }
+            result ≡ plain_update ask.now asks }
     {
         match ask {
             MetaAsk::Update {
@@ -130,6 +133,7 @@ impl<M: Meta + Drop> Machines<M> {
             MetaAsk::Watch { .. } => None,
             MetaAsk::Olds { .. } => None,
             MetaAsk::Forget { .. } => None,
+            MetaAsk::Swap { .. } => None,
         }
     }
 
@@ -146,6 +150,38 @@ impl<M: Meta + Drop> Machines<M> {
     }
 }
 
+/// Which operation's update or swap was served, by what the update will do and by the answers.
+fn updated_by(ask: &MetaAsk, attempted: Option<Updated>, says: &[MetaSay]) -> Option<Updated>
+    ensures { (asks : List MetaAsk) → attempted ≡ plain_update ask.now asks →
+        says.now ≡ service_answers asks ask.now → result ≡ updated_by ask.now asks }
+{
+    match ask {
+        MetaAsk::Swap { client, op, .. } => answered_swap(*client, *op, says),
+        _ => attempted,
+    }
+}
+
+/// A swap that is answered so.
+fn answered_swap(client: u32, op: u32, says: &[MetaSay]) -> Option<Updated>
+    ensures { result ≡ answered_swap client op says.now }
+{
+    match says.first() {
+        Some(say) => Some(Updated {
+            client,
+            op,
+            is_applied: is_swapped(say),
+        }),
+        None => None,
+    }
+}
+
+/// Whether the answer is that a swap was applied.
+fn is_swapped(say: &MetaSay) -> bool
+    ensures { result ≡ is_swapped say.now }
+{
+    matches!(say, MetaSay::Swapped { .. })
+}
+
 /// Whom an input goes to; 0 where it says nobody.
 fn client_of(cue: &Cue) -> u32
     ensures { result ≡ addressee cue.now }
@@ -158,6 +194,8 @@ fn client_of(cue: &Cue) -> u32
             MetaSay::Fired { client, .. } => *client,
             MetaSay::OldList { client, .. } => *client,
             MetaSay::Forgot { client, .. } => *client,
+            MetaSay::Swapped { client, .. } => *client,
+            MetaSay::Changed { client, .. } => *client,
         },
         Cue::Cloud(reply) => reply.client,
         Cue::Tick => 0,

@@ -24,7 +24,7 @@ pub(crate) struct Nodes {
 }
 
 impl Nodes {
-    ghost use Rattle.std.specs.Prelude.{◌<◌, ◌≤◌, ◌+◌, ◌^◌, ℕ, List, not, is_some, IfOk, Some};
+    ghost use Rattle.std.specs.Prelude.{◌≡◌, false, ◌<◌, ◌≤◌, ◌+◌, ◌^◌, ℕ, List, not, is_some, IfOk, Some};
     ghost use Rattle.std.specs.List.{All};
     ghost use Rattle.hy_base.specs.declared.limits.TheConstants.{MAX_VALUE};
     ghost use Rattle.hy_protocol.specs.Session.{fresh_session};
@@ -34,6 +34,7 @@ impl Nodes {
     ghost use Rattle.hy_trace.specs.Schedule.{hand, delivery, deed_of};
     ghost use Rattle.hy_cloud.specs.Objects.{StandsForWishes};
     ghost use Rattle.hy_world.specs.Schedules.{is_liar_of, params_of};
+    ghost use Rattle.hy_client.specs.Sizes.{is_swap};
     ghost use Rattle.hy_world.specs.Seats.{StandsForSeat, value_size};
     ghost use Rattle.hy_world.specs.Nodes.{Does, NodesStand, HasBegunIn};
     ghost use Rattle.hy_world.specs.declared.seat.Seat.{Seat};
@@ -127,7 +128,8 @@ impl Nodes {
         client: u32,
         action: &Action,
     ) -> Result<Effects, NoMemory>
-        requires { value_size action.now ≤ MAX_VALUE }
+        requires size { value_size action.now ≤ MAX_VALUE }
+        requires no_swap { is_swap action.now ≡ false }
         ensures { Does (λ p t.
             deed_of p (steps.Invoke client action.now) t) self.old self.new result }
     {

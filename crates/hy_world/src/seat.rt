@@ -1,13 +1,14 @@
 //! A client of the simulator, and what is known of it beside its session.
 
-ghost use Rattle.std.specs.Prelude.{◌≡◌, ◌≤◌, ◌<◌, false, IfOk, OnOk, MatchOption, is_some};
+ghost use Rattle.std.specs.Prelude.{◌≡◌, ◌≤◌, ◌<◌, ◌&&◌, false, IfOk, OnOk, MatchOption, is_some};
 ghost use Rattle.std.specs.Option.{option_map};
 ghost use Rattle.hy_base.specs.declared.limits.TheConstants.{MAX_VALUE};
 ghost use Rattle.hy_meta.specs.Service.{stamp_of_record};
 ghost use Rattle.hy_protocol.specs.Inputs.{has_of};
-ghost use Rattle.hy_protocol.specs.Operations.{key_of};
+ghost use Rattle.hy_protocol.specs.Operations.{key_of, suits};
 ghost use Rattle.hy_protocol.specs.Session.{Session, session_after, session_turn, session_invoked, session_stopped, invoked_sends, is_idle, is_running, session_progress, takes};
 ghost use Rattle.hy_client.specs.Clients.{running_of};
+ghost use Rattle.hy_client.specs.Sizes.{is_swap};
 ghost use Rattle.hy_log.specs.History.{told_progress};
 ghost use Rattle.hy_world.specs.Seats.{StandsForSeat, begun_at, value_size, is_no_memory, heard_by};
 
@@ -31,7 +32,7 @@ pub(crate) struct Seat {
 
 impl Seat {
     /// Begins an operation on a value that is not too large, and answers what it sends first; none
-    /// where the client is busy or stopped.
+    /// where the client is busy or stopped, or the key is not of the action's kind.
     pub(crate) fn begin(
         &mut self,
         alloc: Global,
@@ -39,8 +40,9 @@ impl Seat {
     ) -> Result<Option<Vec<Out>>, NoMemory>
         requires room { begun_at self.old < 4294967295 }
         requires size { value_size action.now ≤ MAX_VALUE }
+        requires no_swap { is_swap action.now ≡ false }
         ensures idle { IfOk result (λ sent. (s : Session) → StandsForSeat self.old s →
-            is_some sent ≡ is_idle s) }
+            is_some sent ≡ (is_idle s && suits action.now)) }
         ensures begins { IfOk result (λ sent. MatchOption sent ((s : Session) →
             StandsForSeat self.old s → StandsForSeat self.new s) (λ outs. (s : Session) →
             StandsForSeat self.old s → StandsForSeat self.new (session_invoked s action.now))) }
@@ -161,6 +163,7 @@ fn key_of(action: &Action) -> Key
         Action::Get { key } => *key,
         Action::Delete { key } => *key,
         Action::Collect { key } => *key,
+        Action::Swap { key, .. } => *key,
     }
 }
 
@@ -173,6 +176,7 @@ fn check(fault: InvokeFault) -> Result<(), NoMemory>
         InvokeFault::Stopped => Ok(()),
         InvokeFault::Busy(_op) => Ok(()),
         InvokeFault::TooLarge(_size) => Ok(()),
+        InvokeFault::WrongKey => Ok(()),
     }
 }
 
@@ -188,6 +192,8 @@ fn told_stamp(cue: &Cue) -> Option<Stamp>
             MetaSay::Fired { .. } => None,
             MetaSay::OldList { .. } => None,
             MetaSay::Forgot { .. } => None,
+            MetaSay::Swapped { .. } => None,
+            MetaSay::Changed { .. } => None,
         },
         Cue::Cloud(_reply) => None,
         Cue::Tick => None,

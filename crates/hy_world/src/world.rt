@@ -39,7 +39,7 @@ impl<M: Meta + Drop> WorldOver<M> {
     ghost use Rattle.hy_trace.specs.Held.{HasLiars, held_of};
     ghost use Rattle.hy_trace.specs.History.{history_of};
     ghost use Rattle.hy_trace.specs.Report.{report_of};
-    ghost use Rattle.hy_log.specs.Points.{points_of};
+    ghost use Rattle.hy_log.specs.Points.{points_of, HasNoSwaps};
     ghost use Rattle.hy_log.specs.RunOrders.{OrdersRun};
     ghost use Rattle.hy_points.specs.Atomic.{IsAtomicLog, AsksOnce};
     ghost use Rattle.hy_world.specs.Promises.{StaysRetrievable, StarvesOnlyOld, RefreshesAtMost, DeletesOnlyOld};
@@ -140,23 +140,27 @@ impl<M: Meta + Drop> WorldOver<M> {
     }
 
     /// The moments at which the puts, gets and deletes began, read, wrote and returned, in the order
-    /// of their steps: an atomic log in which no operation reads twice, by which the orders are those
-    /// of the report.
+    /// of their steps: where no operation is a swap, an atomic log in which no operation reads twice,
+    /// by which the orders are those of the report.
     pub fn points(&self, alloc: Global) -> Result<PointLog, NoMemory>
         ensures points { IfOk result (λ points. (p : TraceParams) (steps : List Step) →
             StandsForSteps M.served M.given p steps self.now →
             points ≡ points_of p (trace_of p steps)) }
-        ensures atomic { StandsForSome M.served M.given self.now → IfOk result IsAtomicLog }
-        ensures once { StandsForSome M.served M.given self.now → IfOk result AsksOnce }
+        ensures atomic { IfOk result (λ points. (p : TraceParams) (steps : List Step) →
+            StandsForSteps M.served M.given p steps self.now → HasNoSwaps (trace_of p steps) →
+            IsAtomicLog points) }
+        ensures once { IfOk result (λ points. (p : TraceParams) (steps : List Step) →
+            StandsForSteps M.served M.given p steps self.now → HasNoSwaps (trace_of p steps) →
+            AsksOnce points) }
         ensures order { IfOk result (λ points. (p : TraceParams) (steps : List Step) →
-            StandsForSteps M.served M.given p steps self.now →
+            StandsForSteps M.served M.given p steps self.now → HasNoSwaps (trace_of p steps) →
             OrdersRun p (trace_of p steps) points) }
     {
         let points = self.simulation.log.points(alloc)?;
         Ok(points)
     }
 
-    /// The history, an order for each key of a put, get or delete, and the copies of the current
+    /// The history, an order for each key of a put, get, delete or swap, and the copies of the current
     /// versions of these keys.
     pub fn report(&self, alloc: Global) -> Result<Report, NoMemory>
         requires { StandsForSome M.served M.given self.now }
