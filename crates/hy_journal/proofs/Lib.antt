@@ -1,0 +1,16 @@
+mod Blocks
+mod Moments
+mod Reaching
+mod Results
+mod Appending
+mod Folding
+mod Unique
+mod Entries
+mod Adding
+mod Replaying
+mod Found
+mod Standing
+mod Surviving
+mod Histories
+mod Deciding
+mod Requesting
