@@ -27,7 +27,9 @@ use Rattle.hy_put.specs.declared.put.PutOp.{PutOp}
 use Rattle.hy_get.specs.Standing as gets
 use Rattle.hy_get.specs.declared.get.GetOp.{GetOp}
 use Rattle.hy_client.specs.Collecting as collections
+use Rattle.hy_client.specs.Swapping as swaps
 use Rattle.hy_client.specs.declared.collect.CollectOp.{CollectOp}
+use Rattle.hy_client.specs.declared.swap.SwapOp.{SwapOp}
 use Rattle.hy_client.specs.Machines.{Task, RunsBy, Runs, turn_by, task_turn, progress_by, task_progress, Continues, awaits, taken_inputs, taken_turn}
 use Rattle.hy_client.specs.declared.machine.Machine.{Machine}
 use Rattle.hy_client.specs.declared.machine.Machine.TheVariants as machines
@@ -81,6 +83,18 @@ collect-runs self old new more is step task inputs h = by_action task.action (su
     by_action (asked.Delete key) runs = absurd runs
     by_action (asked.Get key) runs = absurd runs
     by_action (asked.Swap key expected value) runs = absurd runs
+
+pub swap-runs : (self : Machine) (old new : SwapOp) (more : List Cue → List Cue) → self ≡ machines.Swap old
+    → ((plan : PutPlan) (expected : Timestamp) (inputs : List Cue) → swaps.StandsForInputs plan expected old inputs → swaps.StandsForInputs plan expected new (more inputs))
+    → (task : Task) (inputs : List Cue) → Runs task self inputs → Runs task (machines.Swap new) (more inputs)
+swap-runs self old new more is step task inputs h = by_action task.action (subst (λ (m : Machine). Runs task m inputs) is h)
+  where
+    by_action : (action : Action) → RunsBy task.f task.k task.client task.op action (machines.Swap old) inputs → RunsBy task.f task.k task.client task.op action (machines.Swap new) (more inputs)
+    by_action (asked.Swap key expected value) runs = step _ expected inputs runs
+    by_action (asked.Put key value) runs = absurd runs
+    by_action (asked.Delete key) runs = absurd runs
+    by_action (asked.Get key) runs = absurd runs
+    by_action (asked.Collect key) runs = absurd runs
 
 -- ---- what an operation sends first
 

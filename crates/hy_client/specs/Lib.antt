@@ -1,5 +1,6 @@
 pub mod Targets
 pub mod Collecting
+pub mod Swapping
 pub mod Faults
 pub mod Sizes
 pub mod Machines

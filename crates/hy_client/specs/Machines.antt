@@ -11,6 +11,7 @@ use Rattle.hy_protocol.specs.Turns.{quiet_turn, put_turn, swap_turn, get_turn, c
 use Rattle.hy_put.specs.Standing as puts
 use Rattle.hy_get.specs.Standing as gets
 use Rattle.hy_client.specs.Collecting as collections
+use Rattle.hy_client.specs.Swapping as swaps
 use Rattle.hy_client.specs.declared.machine.Machine.{Machine}
 use Rattle.hy_client.specs.declared.machine.Machine.TheVariants as machines
 use Rattle.hy_client.specs.declared.last.Last.{Last}
@@ -50,6 +51,7 @@ RunsBy f k client op (asked.Put key value) (machines.Put put) inputs = puts.Stan
 RunsBy f k client op (asked.Delete key) (machines.Put put) inputs = puts.StandsForInputs (write_plan f k client op key None) put inputs
 RunsBy f k client op (asked.Get key) (machines.Get get) inputs = gets.StandsForInputs (read_plan client op key) get inputs
 RunsBy f k client op (asked.Collect key) (machines.Collect collect) inputs = collections.StandsForInputs (collect_plan f k client op key) collect inputs
+RunsBy f k client op (asked.Swap key expected value) (machines.Swap swap) inputs = swaps.StandsForInputs (write_plan f k client op key (Some value)) expected swap inputs
 RunsBy f k client op action machine inputs = ⊥
 
 -- the machine is that of the operation, and stands for these inputs

@@ -1,10 +1,10 @@
 //! The client.
 
-ghost use Rattle.std.specs.Prelude.{◌≡◌, ◌+◌, ◌<◌, ◌≤◌, false, IfOk, OnOk, OnErr, IfSome, IfNone, IsOkUnless, Some, None, nat_lt, length, if◌then◌else◌};
+ghost use Rattle.std.specs.Prelude.{◌≡◌, ◌+◌, ◌<◌, ◌≤◌, IfOk, OnOk, OnErr, IfSome, IfNone, IsOkUnless, Some, None, nat_lt, length, if◌then◌else◌};
 ghost use Rattle.hy_base.specs.Shape.{IsShape};
 ghost use Rattle.hy_record.specs.declared.turn.Cue.TheVariants as cues;
 ghost use Rattle.hy_protocol.specs.Operations.{suits};
-ghost use Rattle.hy_client.specs.Sizes.{size_refusal, is_swap};
+ghost use Rattle.hy_client.specs.Sizes.{size_refusal};
 ghost use Rattle.hy_client.specs.declared.fault.InvokeFault.TheVariants as faults;
 
 use crate::fault::InvokeFault;
@@ -62,7 +62,6 @@ impl Client {
     /// Begins an operation, unless the client refuses it: what the operation sends first.
     pub fn invoke(&mut self, alloc: Global, action: &Action) -> Result<Vec<Out>, InvokeFault>
         requires few { begun_of self.old < 4294967295 }
-        requires no_swap { is_swap action.now ≡ false }
         ensures refused { (s : Session) → StandsForSession self.old s → IfSome (invoke_refusal s action.now) (λ fault. result ≡ Err fault) }
         ensures accepted { (s : Session) → StandsForSession self.old s → invoke_refusal s action.now ≡ None → IsOkUnless result faults.NoMemory }
         ensures sends { IfOk result (λ sends. (s : Session) → StandsForSession self.old s → sends.items ≡ invoked_sends s action.now) }

@@ -1,6 +1,6 @@
 //! The machine of an operation, whichever it is.
 
-ghost use Rattle.std.specs.Prelude.{◌≡◌, ◌∷◌, ◌≤◌, [], ℕ, List, false, IfOk, IfErr, OnOk, OnErr, None};
+ghost use Rattle.std.specs.Prelude.{◌≡◌, ◌∷◌, ◌≤◌, [], ℕ, List, IfOk, IfErr, OnOk, OnErr, None};
 ghost use Rattle.hy_base.specs.Shape.{IsShape};
 ghost use Rattle.hy_record.specs.declared.turn.Cue.{Cue};
 ghost use Rattle.hy_protocol.specs.Operations.{sends_of};
@@ -9,9 +9,10 @@ ghost use Rattle.hy_client.specs.declared.fault.InvokeFault.TheVariants as fault
 
 use crate::collect::CollectOp;
 use crate::fault::InvokeFault;
+use crate::swap::SwapOp;
 use hy_base::{Blob, NoMemory};
 use hy_get::GetOp;
-use hy_operation::Progress;
+use hy_operation::{Issuer, Progress};
 use hy_put::{PutOp, PutPlan};
 use hy_record::{Action, Cue, Key, Out, Turn};
 use std::alloc::Global;
@@ -23,11 +24,12 @@ pub(crate) enum Machine {
     Put(PutOp),
     Get(GetOp),
     Collect(CollectOp),
+    Swap(SwapOp),
 }
 
 impl Machine {
     ghost use Rattle.hy_client.specs.Machines.{Task, Runs, task_turn, task_progress};
-    ghost use Rattle.hy_client.specs.Sizes.{size_refusal, is_swap};
+    ghost use Rattle.hy_client.specs.Sizes.{size_refusal};
 
     /// The machine of what was asked, as the client's operation of this number in a store of this shape, and what it sends first.
     pub(crate) fn start(
@@ -40,7 +42,6 @@ impl Machine {
     ) -> Result<(Machine, Vec<Out>), InvokeFault>
         requires shape { IsShape f k }
         requires client { 1 ≤ client }
-        requires no_swap { is_swap action.now ≡ false }
         ensures stands { IfOk result (λ started. Runs (record { f = f; k = k; client = client; op = op; action = action.now }) started.0 []) }
         ensures sends { IfOk result (λ started. started.1.items ≡ sends_of f k client op action.now []) }
         ensures err { IfErr result (λ fault. size_refusal action.now ≡ None → fault ≡ faults.NoMemory) }
@@ -80,10 +81,18 @@ impl Machine {
                 Ok((Machine::Collect(collect), sends))
             }
             Action::Swap {
-                key: _,
-                expected: _,
-                value: _,
-            } => Err(InvokeFault::WrongKey),
+                key,
+                expected,
+                value,
+            } => {
+                let issuer = Issuer {
+                    client,
+                    op,
+                    key: *key,
+                };
+                let (swap, sends) = SwapOp::start(alloc, issuer, *expected, value, f, k)?;
+                Ok((Machine::Swap(swap), sends))
+            }
         }
     }
 
@@ -97,6 +106,7 @@ impl Machine {
             Machine::Put(put) => put.step(alloc, cue),
             Machine::Get(get) => get.step(alloc, cue),
             Machine::Collect(collect) => collect.step(alloc, cue),
+            Machine::Swap(swap) => swap.step(alloc, cue),
         }
     }
 
@@ -108,6 +118,7 @@ impl Machine {
             Machine::Put(put) => (put.phase(), put.have(), put.need()),
             Machine::Get(get) => (get.phase(), get.have(), get.need()),
             Machine::Collect(collect) => (collect.phase(), collect.have(), collect.need()),
+            Machine::Swap(swap) => (swap.phase(), swap.have(), swap.need()),
         };
         Progress { phase, have, need }
     }

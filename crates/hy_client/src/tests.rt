@@ -1,7 +1,6 @@
 //! The collector's sends, a client's refusals, and how far operations tell that they are.
 
-ghost use Rattle.std.specs.Prelude.{◌≡◌, false, IfOk, IsTrue};
-ghost use Rattle.hy_client.specs.Sizes.{is_swap};
+ghost use Rattle.std.specs.Prelude.{IsTrue};
 ghost use Rattle.hy_base.specs.Shape.{IsShape};
 
 use super::*;
@@ -203,9 +202,7 @@ fn largest_shape_deletes_in_ten_clouds(rt: HostRuntime) -> Result<(), Fail> {
 }
 
 /// A put of so many bytes.
-fn put_of(alloc: Global, count: usize) -> Result<Action, Fail>
-    ensures { IfOk result (λ action. is_swap action ≡ false) }
-{
+fn put_of(alloc: Global, count: usize) -> Result<Action, Fail> {
     let key = key()?;
     let value = Blob::of(vec![in alloc; 7u8; count]?);
     Ok(Action::Put { key, value })
@@ -283,9 +280,7 @@ fn expect_phases(
     action: &Action,
     inputs: &[Cue],
     told: &[(Phase, u32, u32)],
-) -> Result<(), Fail>
-    requires { is_swap action.now ≡ false }
-{
+) -> Result<(), Fail> {
     let mut client = Client::new(1, 1, 1);
     let _sends = client.invoke(alloc, action)?;
     for (place, expected) in told.iter().enumerate() {

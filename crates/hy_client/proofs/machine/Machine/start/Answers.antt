@@ -25,3 +25,8 @@ pub returns-in_ok-collect-in-Collect-clause-sends : goal.returns-in_ok-collect-i
 returns-in_ok-collect-in-Collect-clause-sends c =
     c.in_ok-collect-in-Collect.ensures.sends
     ∙ first-sends c.args.f c.args.k c.args.client c.args.op (asked.Collect c.in-Collect.key) ∙ ap (λ (action : Action). sends_of c.args.f c.args.k c.args.client c.args.op action []) (sym c.in-Collect.is)
+
+pub returns-in_ok-swap-in-Swap-clause-sends : goal.returns-in_ok-swap-in-Swap-clause-sends
+returns-in_ok-swap-in-Swap-clause-sends c =
+    c.in_ok-swap-in-Swap.ensures.sends
+    ∙ first-sends c.args.f c.args.k c.args.client c.args.op (asked.Swap c.in-Swap.key c.in-Swap.expected c.in-Swap.value) ∙ ap (λ (action : Action). sends_of c.args.f c.args.k c.args.client c.args.op action []) (sym c.in-Swap.is)
