@@ -1,5 +1,5 @@
 -- One deed more changes the courses of operations as its effects tell.
-use Rattle.std.proofs.Common.{◌≡◌, ℕ, ◌+◌, Bool, true, false, cond, List, [], ◌∷◌, length, Option, Some, None, refl, sym, ap, subst, ◌∙◌, inl, inr, arith}
+use Rattle.std.proofs.Common.{◌≡◌, ℕ, ◌+◌, ◌≤◌, Bool, true, false, cond, List, [], ◌∷◌, length, Option, Some, None, refl, sym, ap, subst, ◌∙◌, inl, inr, arith}
 use Rattle.std.specs.Prelude.{◌==◌, ◌&&◌, ◌||◌}
 use Rattle.std.specs.Option.{option_map, option_or}
 use Rattle.std.proofs.lemmas.Option.{none-some, same_Some}
@@ -14,8 +14,9 @@ use Rattle.hy_record.specs.declared.message.MetaSay.{MetaSay}
 use Rattle.hy_record.specs.declared.message.MetaSay.TheVariants as says
 use Rattle.hy_record.specs.declared.turn.Cue.{Cue}
 use Rattle.hy_record.specs.Record.{RecordValue}
-use Rattle.hy_record.specs.Stamp.{Timestamp, stamp_lt}
-use Rattle.hy_meta.specs.Service.{Attempt, attempt_of, is_judged, applies, stamp_of_record, record_after, record_stamp}
+use Rattle.hy_record.specs.Stamp.{Timestamp, stamp_lt, stamp_eq}
+use Rattle.hy_record.proofs.Order.{stamp_eq-true}
+use Rattle.hy_meta.specs.Service.{Attempt, attempt_of, is_judged, is_expected, applies, stamp_of_record, record_after, record_stamp}
 use Rattle.hy_meta.specs.Meta.{judged_answer, Judged, last_swap, repeated_answer, service_answers}
 use Rattle.hy_meta.specs.Run.{IsTried, IsApplied}
 use Rattle.hy_meta.proofs.Rising.{cases_bool, both}
@@ -32,13 +33,13 @@ use Rattle.hy_trace.specs.Trace.{IsTrace, IsIdle, Awaits}
 use Rattle.hy_trace.proofs.Growth.{or-none}
 use Rattle.hy_theorems.proofs.Overwritten.{applied-was}
 use Rattle.hy_theorems.proofs.RealTime.{return-reply}
-use Rattle.hy_theorems.proofs.TopAt.{tried-first}
+use Rattle.hy_theorems.proofs.TopAt.{first-served, tried-first}
 use Rattle.hy_log.specs.declared.course.FirstUpdate.{FirstUpdate}
 use Rattle.hy_log.specs.declared.course.Returned.{Returned}
 use Rattle.hy_log.specs.declared.course.Course.{Course}
 use Rattle.hy_log.specs.declared.course.News.TheVariants.{Heard, Replied, Updated}
-use Rattle.hy_log.specs.Effects.{return_with, return_at, heard_with, heard_at, is_swapped, answered_swap, updated_as, updated_by, updated_at}
-use Rattle.hy_log.specs.Courses.{fresh, noted, noted_by, note_of_heard, note_of_return, note_of_update, kept_return, kept_update, version_stamp, earlier_made, first_made, course_of}
+use Rattle.hy_log.specs.Effects.{return_with, return_at, heard_with, heard_at, is_swapped, found_by, answered_swap, updated_as, updated_by, updated_at}
+use Rattle.hy_log.specs.Courses.{fresh, noted, noted_by, note_of_heard, note_of_return, note_of_update, kept_return, kept_update, stamp_before, version_stamp, earlier_made, first_made, course_of}
 
 abbrev course : Option Returned → Option Timestamp → ℕ → Option Timestamp → ℕ → Option FirstUpdate → Bool → Course
 course returned first first_made version made updated is_applied =
@@ -98,6 +99,25 @@ no-reply-after : (p : Params) (c o : ℕ) (s : Option Start) → reply_after p c
 no-reply-after p c o None = refl
 no-reply-after p c o (Some s) = no-reply p c o s.action
 
+-- ---- what the record was before an update
+
+pub before-now : (d : Deed) (t : List Deed) (key : List ℕ) (n : ℕ) → n ≡ length t + 1 → stamp_before (d ∷ t) key n ≡ stamp_of_record (record_after (served t) key)
+unfolding stamp_before
+before-now d t key n now = (let test : (n == length t + 1) ≡ true = grind (arith, nat_tests) in rw test refl)
+
+pub before-later : (d : Deed) (t : List Deed) (key : List ℕ) (n : ℕ) → n ≤ length t → stamp_before (d ∷ t) key n ≡ stamp_before t key n
+unfolding stamp_before
+before-later d t key n within = (let test : (n == length t + 1) ≡ false = grind (arith, nat_tests) in rw test refl)
+
+-- what is kept of a first update stays
+kept-later : (d : Deed) (t : List Deed) (c o : ℕ) → option_map (kept_update (d ∷ t)) (first_update (is_own c o) t) ≡ option_map (kept_update t) (first_update (is_own c o) t)
+kept-later d t c o = by_first (first_update (is_own c o) t) refl
+  where
+    by_first : (f : Option Update) → first_update (is_own c o) t ≡ f → option_map (kept_update (d ∷ t)) f ≡ option_map (kept_update t) f
+    by_first None is = refl
+    by_first (Some u) is =
+        ap (λ (s : Timestamp). Some (record { at = u.step; is_applied = u.is_applied; found = s })) (before-later d t u.key u.step (first-served (is_own c o) t u is).0.within)
+
 -- ---- the deeds that change no course
 
 unchanged : (p : Params) (c o : ℕ) (d : Deed) (t : List Deed) → inputs_of c o (d ∷ t) ≡ inputs_of c o t → first_made c o (d ∷ t) ≡ first_made c o t → version_made c o (d ∷ t) ≡ version_made c o t →
@@ -109,7 +129,7 @@ unchanged p c o d t inputs first made updates applied reply =
     (ap (λ (x : List Cue). option_map stamp_of_record (first_has x)) inputs)
     first
     (ap (λ (x : List Cue). option_map version_stamp (version_of x)) inputs)
-    made (ap (option_map kept_update) updates) applied
+    made (ap (option_map (kept_update (d ∷ t))) updates ∙ kept-later d t c o) applied
 
 reply-same : (p : Params) (c o : ℕ) (d : Deed) (t : List Deed) → inputs_of c o (d ∷ t) ≡ inputs_of c o t → start_of c o (d ∷ t) ≡ start_of c o t → reply_of p c o (d ∷ t) ≡ reply_of p c o t
 unfolding reply_of
@@ -135,12 +155,12 @@ began-reply p b n c o a t idle =
 
 -- ---- an update that is served
 
-more-updated : (old : Option Update) (u : Update) → option_map kept_update (option_or old (Some u)) ≡ option_or (option_map kept_update old) (Some (kept_update u))
-more-updated None u = refl
-more-updated (Some v) u = refl
+more-updated : (f : Update → FirstUpdate) (old : Option Update) (u : Update) → option_map f (option_or old (Some u)) ≡ option_or (option_map f old) (Some (f u))
+more-updated f None u = refl
+more-updated f (Some v) u = refl
 
-none-updated : (old : Option Update) → option_map kept_update (option_or old None) ≡ option_map kept_update old
-none-updated old = ap (option_map kept_update) (or-none old)
+none-updated : (f : Update → FirstUpdate) (old : Option Update) → option_map f (option_or old None) ≡ option_map f old
+none-updated f old = ap (option_map f) (or-none old)
 
 -- the last swap of a client that was judged was attempted, and applied where its answer says so
 record WasJudged (requests : List MetaAsk) (c o : ℕ) (say : MetaSay) : Type 0 where
@@ -179,15 +199,15 @@ last-tried (asks.Swap b n k e r ∷ before) client j is =
         let made : attempt_of before (asks.Swap b n k e r) ≡ Some a = rw tests.1 refl in
         record { attempt = a; tried = inl made; client = eqb-true b client tests.0; op = refl; applied = λ swapped. inl (made, sym (by (applies (record_after before k) a)) ∙ swapped) }
 
-module _ (p : Params) (c o : ℕ) (t : List Deed) where
+module _ (p : Params) (c o : ℕ) (ask : MetaAsk) (t : List Deed) where
   -- the course with these last three parts
   abbrev updated_course : Option Returned → Option Update → Bool → Course
   updated_course ret update applied =
-      course ret (option_map stamp_of_record (first_has (inputs_of c o t))) (first_made c o t) (option_map version_stamp (version_of (inputs_of c o t))) (version_made c o t) (option_map kept_update update) applied
+      course ret (option_map stamp_of_record (first_has (inputs_of c o t))) (first_made c o t) (option_map version_stamp (version_of (inputs_of c o t))) (version_made c o t) (option_map (kept_update (Served ask ∷ t)) update) applied
 
   not-updated : (ret : Option Return) → ret ≡ return_of p c o t → updated_course (option_map kept_return ret) (option_or (first_update (is_own c o) t) None) (was_applied (served t) c o) ≡ course_of p t c o
   unfolding course_of
-  not-updated ret same = course-same _ _ _ _ _ _ _ _ _ _ _ _ _ _ (ap (option_map kept_return) same) refl refl refl refl (none-updated (first_update (is_own c o) t)) refl
+  not-updated ret same = course-same _ _ _ _ _ _ _ _ _ _ _ _ _ _ (ap (option_map kept_return) same) refl refl refl refl (none-updated (kept_update (Served ask ∷ t)) (first_update (is_own c o) t) ∙ kept-later (Served ask) t c o) refl
 
   by-attempt : (tried : Option Attempt) (ret : Option Return) → ret ≡ return_of p c o t →
       updated_course (option_map kept_return ret) (option_or (first_update (is_own c o) t) (passing (is_own c o) (option_map (update_as t) tried))) (is_applied_own tried (served t) c o || was_applied (served t) c o)
@@ -197,7 +217,10 @@ module _ (p : Params) (c o : ℕ) (t : List Deed) where
       elim (cases_bool ((a.client == c) && (a.op == o))) [
         | inl own ↦
             let u : Update = update_as t a in
-            rw own (course-same _ _ _ _ _ _ _ _ _ _ _ _ _ _ (ap (option_map kept_return) same) refl refl refl refl (more-updated (first_update (is_own c o) t) u) refl)
+            rw own (course-same _ _ _ _ _ _ _ _ _ _ _ _ _ _ (ap (option_map kept_return) same) refl refl refl refl
+            (more-updated (kept_update (Served ask ∷ t)) (first_update (is_own c o) t) u
+            ∙ (ap (λ (old : Option FirstUpdate). option_or old (Some (kept_update (Served ask ∷ t) u))) (kept-later (Served ask) t c o)
+            ∙ ap (λ (s : Timestamp). option_or (option_map (kept_update t) (first_update (is_own c o) t)) (Some (record { at = u.step; is_applied = u.is_applied; found = s }))) (before-now (Served ask) t a.key (length t + 1) refl))) refl)
         | inr other ↦ rw other (not-updated ret same)
       ]
   by-attempt None ret same = not-updated ret same
@@ -206,20 +229,21 @@ module _ (p : Params) (c o : ℕ) (t : List Deed) where
   or-same true y is = is refl
   or-same false y is = refl
 
-  again-same : (u : Update) → first_update (is_own c o) t ≡ Some u → (ret : Option Return) → ret ≡ return_of p c o t → (x : Bool) → (x ≡ true → was_applied (served t) c o ≡ true) →
-      updated_course (option_map kept_return ret) (option_or (first_update (is_own c o) t) None) (was_applied (served t) c o) ≡ noted (Updated (length t + 1) x) (course_of p t c o)
+  again-same : (u : Update) → first_update (is_own c o) t ≡ Some u → (ret : Option Return) → ret ≡ return_of p c o t → (x : Bool) (found : Timestamp) → (x ≡ true → was_applied (served t) c o ≡ true) →
+      updated_course (option_map kept_return ret) (option_or (first_update (is_own c o) t) None) (was_applied (served t) c o) ≡ noted (Updated (length t + 1) x found) (course_of p t c o)
   unfolding course_of
-  again-same u first ret same x applied =
+  again-same u first ret same x found applied =
       course-same _ _ _ _ _ _ _ _ _ _ _ _ _ _ (ap (option_map kept_return) same) refl refl refl refl
-      (ap (λ (f : Option Update). option_map kept_update (option_or f None)) first ∙ sym (ap (λ (f : Option Update). option_or (option_map kept_update f) (Some (record { at = length t + 1; is_applied = x }))) first))
+      (none-updated (kept_update (Served ask ∷ t)) (first_update (is_own c o) t) ∙ (kept-later (Served ask) t c o
+      ∙ (ap (option_map (kept_update t)) first ∙ sym (ap (λ (f : Option Update). option_or (option_map (kept_update t) f) (Some (record { at = length t + 1; is_applied = x; found = found }))) first))))
       (or-same x (was_applied (served t) c o) applied)
 
   -- a swap that is answered again changes nothing
-  by-repeat : (last : Option Judged) (b n : ℕ) (ret : Option Return) → last_swap (served t) b ≡ last → ret ≡ return_of p c o t →
+  by-repeat : (last : Option Judged) (b n : ℕ) (expected : Timestamp) (ret : Option Return) → last_swap (served t) b ≡ last → ret ≡ return_of p c o t →
       updated_course (option_map kept_return ret) (option_or (first_update (is_own c o) t) None) (was_applied (served t) c o)
-      ≡ noted_by (note_of_update (length t + 1) (answered_swap b n (repeated_answer last n))) c o (course_of p t c o)
-  by-repeat None b n ret is same = not-updated ret same
-  by-repeat (Some j) b n ret is same =
+      ≡ noted_by (note_of_update (length t + 1) (answered_swap b n expected (repeated_answer last n))) c o (course_of p t c o)
+  by-repeat None b n expected ret is same = not-updated ret same
+  by-repeat (Some j) b n expected ret is same =
       elim (cases_bool (j.op == n)) [
         | inr other ↦ rw other (not-updated ret same)
         | inl again ↦ rw again (elim (cases_bool ((b == c) && (n == o))) [
@@ -233,7 +257,7 @@ module _ (p : Params) (c o : ℕ) (t : List Deed) where
               let first : first_update (is_own c o) t ≡ Some u.0 = subst (λ (m : ℕ). first_update (is_own c m) t ≡ Some u.0) number (subst (λ (d : ℕ). first_update (is_own d was.attempt.op) t ≡ Some u.0) client u.1) in
               let applied : is_swapped j.say ≡ true → was_applied (served t) c o ≡ true =
               λ swapped. subst (λ (m : ℕ). was_applied (served t) c m ≡ true) number (subst (λ (d : ℕ). was_applied (served t) d was.attempt.op ≡ true) client (applied-was (served t) was.attempt (was.applied swapped))) in
-              rw own (again-same u.0 first ret same (is_swapped j.say) applied)
+              rw own (again-same u.0 first ret same (is_swapped j.say) (found_by expected j.say) applied)
         ])
       ]
 
@@ -245,9 +269,21 @@ module _ (p : Params) (c o : ℕ) (t : List Deed) where
       by true = refl
       by false = refl
 
-  by-request : (ask : MetaAsk) (ret : Option Return) → ret ≡ return_of p c o t →
-      updated_course (option_map kept_return ret) (option_or (first_update (is_own c o) t) (passing (is_own c o) (update_by ask t))) (is_applied_own (attempt_of (served t) ask) (served t) c o || was_applied (served t) c o)
-      ≡ noted_by (note_of_update (length t + 1) (updated_by ask (served t))) c o (course_of p t c o)
+  -- what a judged swap found is told by its answer
+  judged-found : (a : Attempt) (expected : Timestamp) → a.expected ≡ Some expected → found_by expected (judged_answer (served t) a) ≡ stamp_of_record (record_after (served t) a.key)
+  unfolding judged_answer record_stamp
+  judged-found a expected of = by (applies (record_after (served t) a.key) a) refl
+    where
+      by : (x : Bool) → applies (record_after (served t) a.key) a ≡ x → found_by expected (cond x (says.Swapped a.client a.op a.key a.rec.stamp) (says.Changed a.client a.op a.key (stamp_of_record (record_after (served t) a.key)))) ≡ stamp_of_record (record_after (served t) a.key)
+      by false refused = refl
+      by true applied =
+          (let met = (both (is_expected a.expected (stamp_of_record (record_after (served t) a.key))) (stamp_lt (stamp_of_record (record_after (served t) a.key)) a.rec.stamp) applied).0 in
+          let same : stamp_eq (stamp_of_record (record_after (served t) a.key)) expected ≡ true = sym (ap (λ (x : Option Timestamp). is_expected x (stamp_of_record (record_after (served t) a.key))) of) ∙ met in
+          sym (stamp_eq-true (stamp_of_record (record_after (served t) a.key)) expected same))
+
+  by-request : (request : MetaAsk) (ret : Option Return) → ret ≡ return_of p c o t →
+      updated_course (option_map kept_return ret) (option_or (first_update (is_own c o) t) (passing (is_own c o) (update_by request t))) (is_applied_own (attempt_of (served t) request) (served t) c o || was_applied (served t) c o)
+      ≡ noted_by (note_of_update (length t + 1) (updated_by request (served t))) c o (course_of p t c o)
   unfolding service_answers
   by-request (asks.Update b n k r) ret same = by-attempt (attempt_of (served t) (asks.Update b n k r)) ret same
   by-request (asks.Read b n k) ret same = by-attempt None ret same
@@ -256,15 +292,17 @@ module _ (p : Params) (c o : ℕ) (t : List Deed) where
   by-request (asks.Forget b n k ss) ret same = by-attempt None ret same
   by-request (asks.Swap b n k e r) ret same =
       elim (cases_bool (is_judged (served t) b n)) [
-        | inr repeated ↦ rw repeated (by-repeat (last_swap (served t) b) b n ret refl same)
+        | inr repeated ↦ rw repeated (by-repeat (last_swap (served t) b) b n e ret refl same)
         | inl judged ↦
             let a : Attempt = record { client = b; op = n; key = k; rec = r; expected = Some e } in
-            rw judged (by-attempt (Some a) ret same ∙ ap (λ (x : Bool). noted_by (note_of_update (length t + 1) (Some (record { client = b; op = n; is_applied = x }))) c o (course_of p t c o)) (sym (judged-swapped a)))
+            rw judged (by-attempt (Some a) ret same
+            ∙ (ap (λ (x : Bool). noted_by (note_of_update (length t + 1) (Some (record { client = b; op = n; is_applied = x; found = stamp_of_record (record_after (served t) k) }))) c o (course_of p t c o)) (sym (judged-swapped a))
+            ∙ ap (λ (x : Timestamp). noted_by (note_of_update (length t + 1) (Some (record { client = b; op = n; is_applied = is_swapped (judged_answer (served t) a); found = x }))) c o (course_of p t c o)) (sym (judged-found a e refl))))
       ]
 
-  updated-step : (ask : MetaAsk) → course_of p (Served ask ∷ t) c o ≡ noted_by (note_of_update (length t + 1) (updated_by ask (served t))) c o (course_of p t c o)
+  updated-step : course_of p (Served ask ∷ t) c o ≡ noted_by (note_of_update (length t + 1) (updated_by ask (served t))) c o (course_of p t c o)
   unfolding course_of served inputs_of first_made version_made first_update was_applied
-  updated-step ask = by-request ask (return_of p c o (Served ask ∷ t)) (return-same p c o (Served ask) t (reply-same p c o (Served ask) t refl (started-same c o (Served ask) t refl)))
+  updated-step = by-request ask (return_of p c o (Served ask ∷ t)) (return-same p c o (Served ask) t (reply-same p c o (Served ask) t refl (started-same c o (Served ask) t refl)))
 
 -- ---- an input that is handed over
 
@@ -363,14 +401,14 @@ module _ (p : Params) (c o w : ℕ) (cue : Cue) (t : List Deed) (trace : IsTrace
   own-course : course_of p (Handed c o w cue ∷ t) c o ≡ after_reply (length t + 1) reply (after_has w (has_of cue) before)
   unfolding course_of served first_has version_of first_update
   own-course =
-      let told = after_has-is w cue (has_of cue) (first_has (inputs_of c o t)) (version_of (inputs_of c o t)) (option_map kept_return (return_of p c o t)) (first_made c o t) (version_made c o t) (option_map kept_update (first_update (is_own c o) t)) (was_applied (served t) c o) in
+      let told = after_has-is w cue (has_of cue) (first_has (inputs_of c o t)) (version_of (inputs_of c o t)) (option_map kept_return (return_of p c o t)) (first_made c o t) (version_made c o t) (option_map (kept_update t) (first_update (is_own c o) t)) (was_applied (served t) c o) in
       course-same _ _ _ _ _ _ _ _ _ _ _ _ _ _
       (ap (option_map kept_return) own-return)
       (ap (λ (x : List Cue). option_map stamp_of_record (first_has x)) own-inputs ∙ ap (λ (x : Course). x.first) told)
       (own-first ∙ ap (λ (x : Course). x.first_made) told)
       (ap (λ (x : List Cue). option_map version_stamp (version_of x)) own-inputs ∙ ap (λ (x : Course). x.version) told)
       (own-made ∙ ap (λ (x : Course). x.made) told)
-      (none-updated (first_update (is_own c o) t) ∙ ap (λ (x : Course). x.updated) told)
+      (none-updated (kept_update (Handed c o w cue ∷ t)) (first_update (is_own c o) t) ∙ (kept-later (Handed c o w cue) t c o ∙ ap (λ (x : Course). x.updated) told))
       (ap (λ (x : Course). x.is_applied) told)
       ∙ after_reply-is (length t + 1) reply (after_has w (has_of cue) before) (after_has-keeps w (has_of cue) before ∙ ap (option_map kept_return) no-return)
 
@@ -403,7 +441,7 @@ unfolding IsTrace inputs_of first_made version_made served first_update
 course-step p Joined t c o trace = unchanged p c o Joined t refl refl refl (or-none (first_update (is_own c o) t)) refl (reply-same p c o Joined t refl (started-same c o Joined t refl))
 course-step p (Began b n a) t c o trace = unchanged p c o (Began b n a) t refl refl refl (or-none (first_update (is_own c o) t)) refl (began-reply p b n c o a t trace.0.0)
 course-step p (Handed b n w cue) t c o trace = handed-step p b n w c o cue t trace.1 trace.0.0
-course-step p (Served ask) t c o trace = updated-step p c o t ask
+course-step p (Served ask) t c o trace = updated-step p c o ask t
 course-step p (Granted ask) t c o trace = unchanged p c o (Granted ask) t refl refl refl (or-none (first_update (is_own c o) t)) refl (reply-same p c o (Granted ask) t refl (started-same c o (Granted ask) t refl))
 course-step p (Stopped b) t c o trace = unchanged p c o (Stopped b) t refl refl refl (or-none (first_update (is_own c o) t)) refl (reply-same p c o (Stopped b) t refl (started-same c o (Stopped b) t refl))
 course-step p Nothing t c o trace = unchanged p c o Nothing t refl refl refl (or-none (first_update (is_own c o) t)) refl (reply-same p c o Nothing t refl (started-same c o Nothing t refl))

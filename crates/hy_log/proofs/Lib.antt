@@ -11,6 +11,7 @@ pub mod Telling
 pub mod Timing
 pub mod DeedAt
 pub mod FirstMade
+pub mod Judging
 pub mod TraceRuns
 pub mod TracePoints
 pub mod TraceOrders

@@ -86,15 +86,15 @@ or-mapped f (Some x) (Some y) = refl
 
 -- a swap that found another record is listed where it was judged, or where its answer was made
 changed-listed : (p : Params) (t : List Deed) (b : Begun) (r : Option Return) →
-    changed_by (step_or (option_map kept_update (first_update (is_own b.client b.op) t)) (version_made b.client b.op t)) (option_map kept_return r) ≡ option_map place_of_mark (changed_mark p t b r)
+    changed_by (step_or (option_map (kept_update t) (first_update (is_own b.client b.op) t)) (version_made b.client b.op t)) (option_map kept_return r) ≡ option_map place_of_mark (changed_mark p t b r)
 unfolding changed_point
 changed-listed p t b None = refl
 changed-listed p t b (Some r) = by_reply r.reply
   where
     step : ℕ
-    step = step_or (option_map kept_update (first_update (is_own b.client b.op) t)) (version_made b.client b.op t)
+    step = step_or (option_map (kept_update t) (first_update (is_own b.client b.op) t)) (version_made b.client b.op t)
 
-    by_update : (u : Option Update) → step_or (option_map kept_update u) (version_made b.client b.op t) ≡ (points.changed_by u b.client b.op t).step
+    by_update : (u : Option Update) → step_or (option_map (kept_update t) u) (version_made b.client b.op t) ≡ (points.changed_by u b.client b.op t).step
     by_update None = refl
     by_update (Some u) = refl
 

@@ -25,7 +25,7 @@ use Rattle.hy_log.specs.declared.moment.Moment.{Moment}
 use Rattle.hy_log.specs.Kept.{Posted}
 use Rattle.hy_log.specs.Courses.{AreCourses, course_of, kept_return, kept_update, version_stamp}
 use Rattle.hy_log.specs.Log.{LogKeeps}
-use Rattle.hy_log.specs.Points.{step_cmp, act_kind, write_ask, read_ask, set_with, write_set, return_end, begun_with, moments_by, moments_of, all_moments, point_at, points_of, ask_moment, set_at, set_moment, end_moment, those_told, moments_with, operation_moments, moments_from}
+use Rattle.hy_log.specs.Points.{step_cmp, act_kind, write_ask, read_ask, set_with, write_set, try_with, swap_try, return_end, begun_with, moments_by, moments_of, all_moments, point_at, points_of, ask_moment, set_at, try_at, set_moment, end_moment, those_told, moments_with, operation_moments, moments_from}
 use Rattle.hy_log.proofs.Telling.{start_line, started-begun}
 
 -- ---- operation by operation
@@ -59,11 +59,17 @@ map-over : {A B C : Type 0} (f : B → C) (g : A → B) (o : Option A) → optio
 map-over f g None = refl
 map-over f g (Some x) = refl
 
-set-same : (n : ℕ) (stamp : Option Timestamp) (u : Option Update) → set_at n stamp (option_map kept_update u) ≡ set_with n stamp u
-set-same n None None = refl
-set-same n None (Some u) = refl
-set-same n (Some stamp) None = refl
-set-same n (Some stamp) (Some u) = refl
+set-same : (t : List Deed) (n : ℕ) (stamp : Option Timestamp) (u : Option Update) → set_at n stamp (option_map (kept_update t) u) ≡ set_with n stamp u
+set-same t n None None = refl
+set-same t n None (Some u) = refl
+set-same t n (Some stamp) None = refl
+set-same t n (Some stamp) (Some u) = refl
+
+try-same : (t : List Deed) (n : ℕ) (stamp : Option Timestamp) (u : Option Update) → try_at n stamp (option_map (kept_update t) u) ≡ try_with t n stamp u
+try-same t n None None = refl
+try-same t n None (Some u) = refl
+try-same t n (Some stamp) None = refl
+try-same t n (Some stamp) (Some u) = refl
 
 own-same : (c : ℕ) (has : Option (Option RecordValue)) → option_and_then (λ first. next_stamp first c) (option_map stamp_of_record has) ≡ option_and_then (stamp_upon c) has
 own-same c None = refl
@@ -84,8 +90,14 @@ module _ (p : Params) (t : List Deed) (n : ℕ) (b : Begun) where
   set-is : (key : List ℕ) (value : Option (List ℕ)) → set_moment n b.client acts.Put course ≡ write_set p t n b key value
   unfolding course_of own_stamp
   set-is key value =
-      ap (λ (stamp : Option Timestamp). set_at n stamp (option_map kept_update (first_update (is_own b.client b.op) t))) (own-same b.client (first_has (inputs_of b.client b.op t)))
-      ∙ set-same n (option_and_then (stamp_upon b.client) (first_has (inputs_of b.client b.op t))) (first_update (is_own b.client b.op) t)
+      ap (λ (stamp : Option Timestamp). set_at n stamp (option_map (kept_update t) (first_update (is_own b.client b.op) t))) (own-same b.client (first_has (inputs_of b.client b.op t)))
+      ∙ set-same t n (option_and_then (stamp_upon b.client) (first_has (inputs_of b.client b.op t))) (first_update (is_own b.client b.op) t)
+
+  try-is : (key value : List ℕ) (expected : Timestamp) → set_moment n b.client (acts.Swap expected) course ≡ swap_try p t n b key value
+  unfolding course_of own_stamp
+  try-is key value expected =
+      ap (λ (stamp : Option Timestamp). try_at n stamp (option_map (kept_update t) (first_update (is_own b.client b.op) t))) (own-same b.client (first_has (inputs_of b.client b.op t)))
+      ∙ try-same t n (option_and_then (stamp_upon b.client) (first_has (inputs_of b.client b.op t))) (first_update (is_own b.client b.op) t)
 
   end-is : end_moment n course ≡ return_end p t n b
   unfolding course_of
@@ -99,7 +111,7 @@ module _ (p : Params) (t : List Deed) (n : ℕ) (b : Begun) where
   moments-by (asked.Delete key) = begun-same key acts.Delete _ _ _ _ _ _ write-ask-is (set-is key None) end-is
   moments-by (asked.Get key) = begun-same key acts.Get _ _ None None _ _ read-ask-is refl end-is
   moments-by (asked.Collect key) = refl
-  moments-by (asked.Swap key expected value) = refl
+  moments-by (asked.Swap key expected value) = begun-same key (acts.Swap expected) _ _ _ _ _ _ write-ask-is (try-is key value expected) end-is
 
 timed-operations : (p : Params) (t : List Deed) (courses : List (List Course)) (number : ℕ) (ops : List Begun) → AreCourses p t courses → IsNumberedFrom number (map (operation_of p t) ops) →
     moments_from courses number (map start_line ops) ≡ all_moments p t ops

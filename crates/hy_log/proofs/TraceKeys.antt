@@ -1,6 +1,5 @@
 -- The orders by the points of a trace are those of its report.
-use Rattle.std.proofs.Common.{◌≡◌, ℕ, false, List, map, reverse, Some, None, refl, sym, ap, subst, ◌∙◌, inl, inr}
-use Rattle.std.proofs.lemmas.Bool.{false≢true}
+use Rattle.std.proofs.Common.{◌≡◌, ℕ, List, map, reverse, Some, refl, sym, ap, subst, ◌∙◌, inl, inr}
 use Rattle.std.proofs.lemmas.Option.{none-some, same_Some}
 use Rattle.hy_record.specs.declared.action.Action.{Action}
 use Rattle.hy_record.specs.declared.action.Action.TheVariants as asked
@@ -8,7 +7,6 @@ use Rattle.hy_order.specs.declared.operation.Operation.{Operation}
 use Rattle.hy_order.specs.declared.order.Order.{Order}
 use Rattle.hy_order.specs.Keys.{register_key, register_keys}
 use Rattle.hy_points.specs.declared.point.ActKind.{ActKind}
-use Rattle.hy_points.specs.declared.point.ActKind.TheVariants as acts
 use Rattle.hy_points.specs.declared.point.Point.{Point}
 use Rattle.hy_points.specs.declared.point.Point.TheVariants as points
 use Rattle.hy_points.specs.Marks.{begun_key, begun_keys, order_at}
@@ -16,24 +14,24 @@ use Rattle.hy_points.specs.Runs.{Run, IsPointOf}
 use Rattle.hy_points.proofs.Listing.{in-map}
 use Rattle.hy_points.proofs.OneOrder.{all-of, AreAmong}
 use Rattle.hy_points.proofs.SortedKeys.{picked-in, of-picked, of-mapped, keys-same}
-use Rattle.hy_points.specs.Stamps.{is_swap}
 use Rattle.hy_trace.specs.Deeds.{Params, Deed}
 use Rattle.hy_trace.specs.History.{Begun, begun_of, operation_of, history_of}
 use Rattle.hy_trace.specs.Report.{order_of, keys_of}
 use Rattle.hy_trace.specs.Trace.{IsTrace}
 use Rattle.hy_theorems.specs.Writing.{Change, Puts, Deletes, Swaps, change_action}
 use Rattle.hy_theorems.proofs.Beginnings.{begun-in}
-use Rattle.hy_log.specs.Points.{point_at, points_of, HasNoSwaps}
+use Rattle.hy_log.specs.Points.{point_at, points_of}
 use Rattle.hy_log.specs.RunOrders.{OrdersRun}
 use Rattle.hy_log.proofs.Ordered.{map-same}
 use Rattle.hy_log.proofs.TraceOrders.{order-is}
 use Rattle.hy_log.proofs.TracePoints.{step_of, among-reverse, in_order, are-moments, HasBegun, began-all}
-use Rattle.hy_log.proofs.TraceRuns.{first_reading, version_reading, own_writing, run_with, run_by, IsRun, kind}
+use Rattle.hy_log.proofs.TraceRuns.{change_run, get_run, run_by, IsRun, kind}
 
 begun-of : (q : Point) (key : List ℕ) → begun_key q ≡ Some key → (op : ℕ) × (client : ℕ) × (act : ActKind) × (q ≡ points.Begin op client key act)
 begun-of (points.Begin op client k act) key is = (op, client, act, ap (λ (x : List ℕ). points.Begin op client x act) (same_Some k key is))
 begun-of (points.Ask op found) key is = absurd (none-some key is)
 begun-of (points.Set op stamp applied) key is = absurd (none-some key is)
+begun-of (points.Try op stamp found) key is = absurd (none-some key is)
 begun-of (points.End op) key is = absurd (none-some key is)
 
 begins-key : (q : Point) (op client : ℕ) (k key : List ℕ) (act : ActKind) → q ≡ points.Begin op client k act → k ≡ key → begun_key q ≡ Some key
@@ -52,14 +50,14 @@ module _ (p : Params) (t : List Deed) where
     | inr w ↦ ap register_key w.action_is
   ]
 
-  run-of : (b : Begun) (key : List ℕ) (a : Action) → is_swap a ≡ false → register_key a ≡ Some key → (run : Run) × (run_by p t b a ≡ Some run) × (run.key ≡ key)
-  run-of b key (asked.Put k v) other is = (run_with p t b k acts.Put (first_reading p t b) (own_writing p t b k (Some v)), refl, same_Some k key is)
-  run-of b key (asked.Delete k) other is = (run_with p t b k acts.Delete (first_reading p t b) (own_writing p t b k None), refl, same_Some k key is)
-  run-of b key (asked.Get k) other is = (run_with p t b k acts.Get (version_reading p t b) None, refl, same_Some k key is)
-  run-of b key (asked.Collect k) other is = absurd (none-some key is)
-  run-of b key (asked.Swap k e v) other is = absurd (false≢true (sym other))
+  run-of : (b : Begun) (key : List ℕ) (a : Action) → register_key a ≡ Some key → (run : Run) × (run_by p t b a ≡ Some run) × (run.key ≡ key)
+  run-of b key (asked.Put k v) is = (change_run p t b k (Puts v), refl, same_Some k key is)
+  run-of b key (asked.Delete k) is = (change_run p t b k Deletes, refl, same_Some k key is)
+  run-of b key (asked.Swap k e v) is = (change_run p t b k (Swaps e v), refl, same_Some k key is)
+  run-of b key (asked.Get k) is = (get_run p t b k, refl, same_Some k key is)
+  run-of b key (asked.Collect k) is = absurd (none-some key is)
 
-module _ (p : Params) (t : List Deed) (trace : IsTrace p t) (none : HasNoSwaps t) where
+module _ (p : Params) (t : List Deed) (trace : IsTrace p t) where
   -- the points begin operations on the keys that the history names
   logged-key : AreAmong (begun_keys (points_of p t)) (register_keys (history_of p t))
   unfolding points_of history_of
@@ -80,15 +78,15 @@ module _ (p : Params) (t : List Deed) (trace : IsTrace p t) (none : HasNoSwaps t
       let op = of-picked (λ (op : Operation). register_key op.action) (map (operation_of p t) (reverse (begun_of t))) key there in
       let b = of-mapped (operation_of p t) (reverse (begun_of t)) op.0 op.1 in
       let began = all-of (HasBegun p t trace) (reverse (begun_of t)) b.0 (began-all p t trace) b.1 in
-      let r = run-of p t b.0 key b.0.start.action (none b.0.client b.0.op b.0.start began) (ap (λ (x : Operation). register_key x.action) b.2 ∙ op.2) in
+      let r = run-of p t b.0 key b.0.start.action (ap (λ (x : Operation). register_key x.action) b.2 ∙ op.2) in
       let is : IsRun p t r.0 = record { b = b.0; began = began; is = r.1 } in
       let m = (are-moments p t trace).has r.0 r.0.begun (points.Begin r.0.op r.0.client r.0.key r.0.act) is (refl, refl, refl, refl, refl) in
       picked-in begun_key (map point_at (in_order p t trace)) (point_at m.0) key (in-map point_at (in_order p t trace) m.0 m.1) (begins-key (point_at m.0) r.0.op r.0.client r.0.key key r.0.act m.3 r.2)
 
   order-same : (key : List ℕ) → order_at (points_of p t) key ≡ order_of p t key
-  order-same key = (let made : List ℕ → Order = λ ops. record { key = key; ops = ops } in ap made (order-is p t trace none key))
+  order-same key = (let made : List ℕ → Order = λ ops. record { key = key; ops = ops } in ap made (order-is p t trace key))
 
-  -- the orders by the points are those of a run without swaps
+  -- the orders by the points are those of the run
   pub orders-run : OrdersRun p t (points_of p t)
   orders-run = record {
     order = order-same;

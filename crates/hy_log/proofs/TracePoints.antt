@@ -32,15 +32,15 @@ use Rattle.hy_trace.specs.Trace.{IsTrace}
 use Rattle.hy_theorems.proofs.Beginnings.{AreOthers, IsAmongBegun, begun-are, begun-in}
 use Rattle.hy_theorems.proofs.Listing as listing
 use Rattle.hy_theorems.proofs.Meaning.{ask_with}
-use Rattle.hy_theorems.specs.Writing.{change_value}
+use Rattle.hy_theorems.specs.Writing.{Puts, Deletes, Swaps, change_value}
 use Rattle.hy_theorems.proofs.TopAt.{top_at}
 use Rattle.hy_log.specs.declared.moment.Moment.{Moment}
-use Rattle.hy_log.specs.Courses.{first_made, version_stamp}
-use Rattle.hy_log.specs.Points.{moment, point_at, those_told, step_cmp, write_ask, read_ask, set_with, write_set, return_end, begun_with, moments_by, moments_of, all_moments, points_of, HasNoSwaps}
+use Rattle.hy_log.specs.Courses.{first_made, version_stamp, stamp_before}
+use Rattle.hy_log.specs.Points.{moment, point_at, those_told, step_cmp, write_ask, read_ask, set_with, write_set, try_with, swap_try, return_end, begun_with, moments_by, moments_of, all_moments, points_of}
 use Rattle.hy_log.proofs.DeedAt.{deed_at, read-deed, begin-deed, update-deed, end-deed}
 use Rattle.hy_log.proofs.FirstMade.{first-sent, version-sent}
 use Rattle.hy_log.proofs.Timing.{steps-total}
-use Rattle.hy_log.proofs.TraceRuns.{number_of, writing_with, first_reading, version_reading, own_writing, own_end, run_with, run_by, IsRun, kind, begun-is, map-some, writing-parts, are-runs}
+use Rattle.hy_log.proofs.TraceRuns.{number_of, writing_with, trial_with, first_reading, version_reading, own_writing, own_trial, own_end, change_run, get_run, run_by, IsRun, kind, begun-is, map-some, writing-parts, trial-parts, set-change, trial-change, are-runs}
 
 -- ---- lists
 
@@ -109,15 +109,18 @@ module _ (run : Run) (n : ℕ) (b : Begun) (key : List ℕ) (act : ActKind) (ask
 
   has-with : ((s : ℕ) (found : Timestamp) → run.asked ≡ Some (record { step = s; found = found }) → ask ≡ Some (moment s (points.Ask n found)))
       → ((s : ℕ) (stamp : Timestamp) (applied : Bool) → run.set ≡ Some (record { step = s; stamp = stamp; is_applied = applied }) → set ≡ Some (moment s (points.Set n stamp applied)))
+      → ((s : ℕ) (stamp found : Timestamp) → run.tried ≡ Some (record { step = s; stamp = stamp; found = found }) → set ≡ Some (moment s (points.Try n stamp found)))
       → ((s : ℕ) → run.ended ≡ Some s → end ≡ Some (moment s (points.End n)))
       → (s : ℕ) (q : Point) → IsPointOf run s q → (m : Moment) × IsIn (begun_with n b key act ask set end) m × (m.step ≡ s) × (m.point ≡ q)
-  has-with asks sets ends s (points.Begin op client k a) of =
+  has-with asks sets tries ends s (points.Begin op client k a) of =
       (moment (length b.start.before + 1) (points.Begin n b.client key act), inl refl, begun_is ∙ sym of.4, begin-same op client k a of.0 of.1 of.2 of.3)
-  has-with asks sets ends s (points.Ask op found) of =
+  has-with asks sets tries ends s (points.Ask op found) of =
       (moment s (points.Ask n found), inr (told-in (ask ∷ set ∷ end ∷ []) (moment s (points.Ask n found)) (inl (asks s found of.1))), refl, ap (λ (o : ℕ). points.Ask o found) (op_is ∙ sym of.0))
-  has-with asks sets ends s (points.Set op stamp applied) of =
+  has-with asks sets tries ends s (points.Set op stamp applied) of =
       (moment s (points.Set n stamp applied), inr (told-in (ask ∷ set ∷ end ∷ []) (moment s (points.Set n stamp applied)) (inr (inl (sets s stamp applied of.1)))), refl, ap (λ (o : ℕ). points.Set o stamp applied) (op_is ∙ sym of.0))
-  has-with asks sets ends s (points.End op) of =
+  has-with asks sets tries ends s (points.Try op stamp found) of =
+      (moment s (points.Try n stamp found), inr (told-in (ask ∷ set ∷ end ∷ []) (moment s (points.Try n stamp found)) (inr (inl (tries s stamp found of.1)))), refl, ap (λ (o : ℕ). points.Try o stamp found) (op_is ∙ sym of.0))
+  has-with asks sets tries ends s (points.End op) of =
       (moment s (points.End n), inr (told-in (ask ∷ set ∷ end ∷ []) (moment s (points.End n)) (inr (inr (inl (ends s of.1))))), refl, ap points.End (op_is ∙ sym of.0))
 
 set-parts : (n : ℕ) (stamp : Option Timestamp) (u : Option Update) (m : Moment) → set_with n stamp u ≡ Some m → (x : Update) × (s : Timestamp) × (u ≡ Some x) × (stamp ≡ Some s) × (moment x.step (points.Set n s x.is_applied) ≡ m)
@@ -125,6 +128,12 @@ set-parts n None None m is = absurd (none-some m is)
 set-parts n (Some s) None m is = absurd (none-some m is)
 set-parts n None (Some u) m is = absurd (none-some m is)
 set-parts n (Some s) (Some u) m is = (u, s, refl, refl, same_Some (moment u.step (points.Set n s u.is_applied)) m is)
+
+try-parts : (t : List Deed) (n : ℕ) (stamp : Option Timestamp) (u : Option Update) (m : Moment) → try_with t n stamp u ≡ Some m → (x : Update) × (s : Timestamp) × (u ≡ Some x) × (stamp ≡ Some s) × (moment x.step (points.Try n s (stamp_before t x.key x.step)) ≡ m)
+try-parts t n None None m is = absurd (none-some m is)
+try-parts t n (Some s) None m is = absurd (none-some m is)
+try-parts t n None (Some u) m is = absurd (none-some m is)
+try-parts t n (Some s) (Some u) m is = (u, s, refl, refl, same_Some (moment u.step (points.Try n s (stamp_before t u.key u.step))) m is)
 
 module _ (p : Params) (t : List Deed) (b : Begun) where
   abbrev n : ℕ
@@ -146,6 +155,12 @@ module _ (p : Params) (t : List Deed) (b : Begun) where
       subst (λ (y : Moment). IsPointOf run y.step y.point) x.4
       (op, set ∙ (ap (λ (s : Option Timestamp). writing_with s (first_update (is_own b.client b.op) t)) x.3 ∙ ap (writing_with (Some x.1)) x.2))
 
+  own-tries : (run : Run) (key value : List ℕ) → n ≡ run.op → run.tried ≡ own_trial p t b key value → (m : Moment) → swap_try p t n b key value ≡ Some m → IsPointOf run m.step m.point
+  own-tries run key value op tried m is =
+      let x = try-parts t n (own_stamp (write_plan p.f p.k b.client b.op key (Some value)) (inputs_of b.client b.op t)) (first_update (is_own b.client b.op) t) m is in
+      subst (λ (y : Moment). IsPointOf run y.step y.point) x.4
+      (op, tried ∙ (ap (λ (s : Option Timestamp). trial_with t s (first_update (is_own b.client b.op) t)) x.3 ∙ ap (trial_with t (Some x.1)) x.2))
+
   own-ends : (run : Run) → n ≡ run.op → run.ended ≡ own_end p t b → (m : Moment) → return_end p t n b ≡ Some m → IsPointOf run m.step m.point
   own-ends run op ended m is =
       let x = map-some (λ (r : Return). moment r.at (points.End n)) (return_of p b.client b.op t) m is in
@@ -154,16 +169,18 @@ module _ (p : Params) (t : List Deed) (b : Begun) where
   -- each moment of an operation is one of its run
   tells-by : (a : Action) → (m : Moment) → IsIn (moments_by p t n b a) m → (run : Run) × (run_by p t b a ≡ Some run) × IsPointOf run m.step m.point
   tells-by (asked.Put key value) m is =
-      let run = run_with p t b key acts.Put (first_reading p t b) (own_writing p t b key (Some value)) in
+      let run = change_run p t b key (Puts value) in
       (run, refl, tell-with run n b key acts.Put (write_ask t n b) (write_set p t n b key (Some value)) (return_end p t n b) refl refl refl refl refl (first-asks run refl refl) (own-sets run key (Some value) refl refl) (own-ends run refl refl) m is)
   tells-by (asked.Delete key) m is =
-      let run = run_with p t b key acts.Delete (first_reading p t b) (own_writing p t b key None) in
+      let run = change_run p t b key (Deletes) in
       (run, refl, tell-with run n b key acts.Delete (write_ask t n b) (write_set p t n b key None) (return_end p t n b) refl refl refl refl refl (first-asks run refl refl) (own-sets run key None refl refl) (own-ends run refl refl) m is)
+  tells-by (asked.Swap key expected value) m is =
+      let run = change_run p t b key (Swaps expected value) in
+      (run, refl, tell-with run n b key (acts.Swap expected) (write_ask t n b) (swap_try p t n b key value) (return_end p t n b) refl refl refl refl refl (first-asks run refl refl) (own-tries run key value refl refl) (own-ends run refl refl) m is)
   tells-by (asked.Get key) m is =
-      let run = run_with p t b key acts.Get (version_reading p t b) None in
+      let run = get_run p t b key in
       (run, refl, tell-with run n b key acts.Get (read_ask t n b) None (return_end p t n b) refl refl refl refl refl (version-asks run refl refl) (λ x none. absurd (none-some x none)) (own-ends run refl refl) m is)
   tells-by (asked.Collect key) m is = absurd is
-  tells-by (asked.Swap key expected value) m is = absurd is
 
   first-asked : (s : ℕ) (found : Timestamp) → first_reading p t b ≡ Some (record { step = s; found = found }) → write_ask t n b ≡ Some (moment s (points.Ask n found))
   first-asked s found is =
@@ -181,6 +198,12 @@ module _ (p : Params) (t : List Deed) (b : Begun) where
       ap (λ (o : Option Timestamp). set_with n o (first_update (is_own b.client b.op) t)) x.2 ∙ (ap (set_with n (Some stamp)) x.1
       ∙ (ap (λ (k : ℕ). Some (moment k (points.Set n stamp x.0.is_applied))) (sym x.3) ∙ ap (λ (f : Bool). Some (moment s (points.Set n stamp f))) (sym x.4)))
 
+  own-tried : (key value : List ℕ) (s : ℕ) (stamp found : Timestamp) → own_trial p t b key value ≡ Some (record { step = s; stamp = stamp; found = found }) → swap_try p t n b key value ≡ Some (moment s (points.Try n stamp found))
+  own-tried key value s stamp found is =
+      let x = trial-parts t (own_stamp (write_plan p.f p.k b.client b.op key (Some value)) (inputs_of b.client b.op t)) (first_update (is_own b.client b.op) t) (record { step = s; stamp = stamp; found = found }) is in
+      ap (λ (o : Option Timestamp). try_with t n o (first_update (is_own b.client b.op) t)) x.2 ∙ (ap (try_with t n (Some stamp)) x.1
+      ∙ (ap (λ (k : ℕ). Some (moment k (points.Try n stamp (stamp_before t x.0.key x.0.step)))) (sym x.3) ∙ ap (λ (f : Timestamp). Some (moment s (points.Try n stamp f))) (sym x.4)))
+
   own-ended : (s : ℕ) → own_end p t b ≡ Some s → return_end p t n b ≡ Some (moment s (points.End n))
   own-ended s is =
       let x = map-some (λ (r : Return). r.at) (return_of p b.client b.op t) s is in
@@ -188,16 +211,18 @@ module _ (p : Params) (t : List Deed) (b : Begun) where
 
   has-by : (a : Action) (run : Run) → run_by p t b a ≡ Some run → (s : ℕ) (q : Point) → IsPointOf run s q → (m : Moment) × IsIn (moments_by p t n b a) m × (m.step ≡ s) × (m.point ≡ q)
   has-by (asked.Put key value) run is s q of =
-      let own = run_with p t b key acts.Put (first_reading p t b) (own_writing p t b key (Some value)) in
-      has-with own n b key acts.Put (write_ask t n b) (write_set p t n b key (Some value)) (return_end p t n b) refl refl refl refl refl first-asked (own-set key (Some value)) own-ended s q (subst (λ (r : Run). IsPointOf r s q) (sym (same_Some own run is)) of)
+      let own = change_run p t b key (Puts value) in
+      has-with own n b key acts.Put (write_ask t n b) (write_set p t n b key (Some value)) (return_end p t n b) refl refl refl refl refl first-asked (own-set key (Some value)) (λ k stamp found none. absurd (none-some _ none)) own-ended s q (subst (λ (r : Run). IsPointOf r s q) (sym (same_Some own run is)) of)
   has-by (asked.Delete key) run is s q of =
-      let own = run_with p t b key acts.Delete (first_reading p t b) (own_writing p t b key None) in
-      has-with own n b key acts.Delete (write_ask t n b) (write_set p t n b key None) (return_end p t n b) refl refl refl refl refl first-asked (own-set key None) own-ended s q (subst (λ (r : Run). IsPointOf r s q) (sym (same_Some own run is)) of)
+      let own = change_run p t b key (Deletes) in
+      has-with own n b key acts.Delete (write_ask t n b) (write_set p t n b key None) (return_end p t n b) refl refl refl refl refl first-asked (own-set key None) (λ k stamp found none. absurd (none-some _ none)) own-ended s q (subst (λ (r : Run). IsPointOf r s q) (sym (same_Some own run is)) of)
+  has-by (asked.Swap key expected value) run is s q of =
+      let own = change_run p t b key (Swaps expected value) in
+      has-with own n b key (acts.Swap expected) (write_ask t n b) (swap_try p t n b key value) (return_end p t n b) refl refl refl refl refl first-asked (λ k stamp applied none. absurd (none-some _ none)) (own-tried key value) own-ended s q (subst (λ (r : Run). IsPointOf r s q) (sym (same_Some own run is)) of)
   has-by (asked.Get key) run is s q of =
-      let own = run_with p t b key acts.Get (version_reading p t b) None in
-      has-with own n b key acts.Get (read_ask t n b) None (return_end p t n b) refl refl refl refl refl version-asked (λ k stamp applied none. absurd (none-some _ none)) own-ended s q (subst (λ (r : Run). IsPointOf r s q) (sym (same_Some own run is)) of)
+      let own = get_run p t b key in
+      has-with own n b key acts.Get (read_ask t n b) None (return_end p t n b) refl refl refl refl refl version-asked (λ k stamp applied none. absurd (none-some _ none)) (λ k stamp found none. absurd (none-some _ none)) own-ended s q (subst (λ (r : Run). IsPointOf r s q) (sym (same_Some own run is)) of)
   has-by (asked.Collect key) run is s q of = absurd (none-some run is)
-  has-by (asked.Swap key expected value) run is s q of = absurd (none-some run is)
 
 -- ---- the steps of the moments differ
 
@@ -235,6 +260,7 @@ abbrev kind_of : Point → ℕ
 kind_of (points.Begin op client key act) = 0
 kind_of (points.Ask op found) = 1
 kind_of (points.Set op stamp applied) = 2
+kind_of (points.Try op stamp found) = 2
 kind_of (points.End op) = 3
 
 abbrev Alike : Moment → Moment → Type 0
@@ -263,6 +289,9 @@ module _ (p : Params) (t : List Deed) (b : Begun) where
   set-kind : (key : List ℕ) (value : Option (List ℕ)) (m : Moment) → write_set p t (number_of b) b key value ≡ Some m → kind_of m.point ≡ 2
   set-kind key value m is = (let x = set-parts (number_of b) (own_stamp (write_plan p.f p.k b.client b.op key value) (inputs_of b.client b.op t)) (first_update (is_own b.client b.op) t) m is in sym (ap (λ (y : Moment). kind_of y.point) x.4))
 
+  try-kind : (key value : List ℕ) (m : Moment) → swap_try p t (number_of b) b key value ≡ Some m → kind_of m.point ≡ 2
+  try-kind key value m is = (let x = try-parts t (number_of b) (own_stamp (write_plan p.f p.k b.client b.op key (Some value)) (inputs_of b.client b.op t)) (first_update (is_own b.client b.op) t) m is in sym (ap (λ (y : Moment). kind_of y.point) x.4))
+
   end-kind : (m : Moment) → return_end p t (number_of b) b ≡ Some m → kind_of m.point ≡ 3
   end-kind m is = (let x = map-some (λ (r : Return). moment r.at (points.End (number_of b))) (return_of p b.client b.op t) m is in sym (ap (λ (y : Moment). kind_of y.point) x.2))
 
@@ -271,11 +300,18 @@ module _ (p : Params) (t : List Deed) (b : Begun) where
   own-pairs (asked.Delete key) = pairs-told (moment (length b.start.before + 1) (points.Begin (number_of b) b.client key acts.Delete)) (write_ask t (number_of b) b) (write_set p t (number_of b) b key None) (return_end p t (number_of b) b) refl ask-kind (set-kind key None) end-kind
   own-pairs (asked.Get key) = pairs-told (moment (length b.start.before + 1) (points.Begin (number_of b) b.client key acts.Get)) (read_ask t (number_of b) b) None (return_end p t (number_of b) b) refl version-kind (λ m none. absurd (none-some m none)) end-kind
   own-pairs (asked.Collect key) = tt
-  own-pairs (asked.Swap key expected value) = tt
+  own-pairs (asked.Swap key expected value) = pairs-told (moment (length b.start.before + 1) (points.Begin (number_of b) b.client key (acts.Swap expected))) (write_ask t (number_of b) b) (swap_try p t (number_of b) b key value) (return_end p t (number_of b) b) refl ask-kind (try-kind key value) end-kind
 
 module _ (p : Params) (t : List Deed) (trace : IsTrace p t) where
   at-deed : (d : Deed) (n : ℕ) → deed_at t n ≡ Some d → name_at t n ≡ name_of d
   at-deed d n is = ap (option_and_then name_of) is
+
+  -- the deed of an operation's first update
+  update-named : (b : Begun) (u : Update) → first_update (is_own b.client b.op) t ≡ Some u → name_at t u.step ≡ Some (name b.client b.op 2)
+  update-named b x first =
+      let u = update-deed b.client b.op t x first in
+      at-deed (Served (ask_with u.attempt u.attempt.expected)) x.step u.deed
+      ∙ (tried-name u.attempt u.attempt.expected ∙ (ap (λ (c : ℕ). Some (name c u.attempt.op 2)) u.client ∙ ap (λ (o : ℕ). Some (name b.client o 2)) u.op))
 
   -- the deed of a point's step is its operation's
   named : (run : Run) → (is : IsRun p t run) → (n : ℕ) (q : Point) → IsPointOf run n q → name_at t n ≡ Some (name is.b.client is.b.op (kind_of q))
@@ -298,10 +334,16 @@ module _ (p : Params) (t : List Deed) (trace : IsTrace p t) where
   named run is n (points.Set op stamp applied) of = elim (kind p t run is) [
     | inr w ↦ absurd (none-some (record { step = n; stamp = stamp; is_applied = applied }) (sym (ap (λ (y : Run). y.set) w.run_is) ∙ of.1))
     | inl w ↦
-        let x = writing-parts (own_stamp (write_plan p.f p.k is.b.client is.b.op run.key (change_value w.change)) (inputs_of is.b.client is.b.op t)) (first_update (is_own is.b.client is.b.op) t) (record { step = n; stamp = stamp; is_applied = applied }) (sym (ap (λ (y : Run). y.set) w.run_is) ∙ of.1) in
-        let u = update-deed is.b.client is.b.op t x.0 x.1 in
-        ap (name_at t) x.3 ∙ (at-deed (Served (ask_with u.attempt u.attempt.expected)) x.0.step u.deed
-        ∙ (tried-name u.attempt u.attempt.expected ∙ (ap (λ (c : ℕ). Some (name c u.attempt.op 2)) u.client ∙ ap (λ (o : ℕ). Some (name is.b.client o 2)) u.op)))
+        let c = set-change p t is.b run.key w.change (record { step = n; stamp = stamp; is_applied = applied }) (sym (ap (λ (y : Run). y.set) w.run_is) ∙ of.1) in
+        let x = writing-parts (own_stamp (write_plan p.f p.k is.b.client is.b.op run.key (change_value w.change)) (inputs_of is.b.client is.b.op t)) (first_update (is_own is.b.client is.b.op) t) (record { step = n; stamp = stamp; is_applied = applied }) c.2 in
+        ap (name_at t) x.3 ∙ update-named is.b x.0 x.1
+  ]
+  named run is n (points.Try op stamp found) of = elim (kind p t run is) [
+    | inr w ↦ absurd (none-some (record { step = n; stamp = stamp; found = found }) (sym (ap (λ (y : Run). y.tried) w.run_is) ∙ of.1))
+    | inl w ↦
+        let c = trial-change p t is.b run.key w.change (record { step = n; stamp = stamp; found = found }) (sym (ap (λ (y : Run). y.tried) w.run_is) ∙ of.1) in
+        let x = trial-parts t (own_stamp (write_plan p.f p.k is.b.client is.b.op run.key (Some c.value)) (inputs_of is.b.client is.b.op t)) (first_update (is_own is.b.client is.b.op) t) (record { step = n; stamp = stamp; found = found }) c.trial in
+        ap (name_at t) x.3 ∙ update-named is.b x.0 x.1
   ]
 
   -- each moment of an operation that began
@@ -415,10 +457,10 @@ module _ (p : Params) (t : List Deed) (trace : IsTrace p t) where
         (x.0, in-sorted step_cmp (all_moments p t ops) x.0 (to-all p t trace ops is.b x.0 (among-reverse (begun_of t) is.b (begun-in is.b.client is.b.op t is.b.start is.began)) x.1), x.2, x.3));
   }
 
-  pub points-atomic : HasNoSwaps t → IsAtomicLog (points_of p t)
+  pub points-atomic : IsAtomicLog (points_of p t)
   unfolding points_of
-  points-atomic none = is-atomic step_of point_at (IsRun p t) (top_at t) in_order are-moments (are-runs p t trace none)
+  points-atomic = is-atomic step_of point_at (IsRun p t) (top_at t) in_order are-moments (are-runs p t trace)
 
-  pub points-once : HasNoSwaps t → AsksOnce (points_of p t)
+  pub points-once : AsksOnce (points_of p t)
   unfolding points_of
-  points-once none = asks-once step_of point_at (IsRun p t) (top_at t) in_order are-moments (are-runs p t trace none)
+  points-once = asks-once step_of point_at (IsRun p t) (top_at t) in_order are-moments (are-runs p t trace)

@@ -1,28 +1,29 @@
 -- The operations of a trace are runs: one by one at each client, over the record of their key.
 use Rattle.std.proofs.Common.{◌≡◌, ℕ, ◌+◌, ◌≤◌, ◌<◌, Bool, true, false, List, [], ◌∷◌, length, Option, Some, None, is_some, refl, sym, ap, subst, ◌∙◌, inl, inr, arith}
-use Rattle.std.specs.Prelude.{◌⊎◌}
+use Rattle.std.specs.Prelude.{◌⊎◌, not}
 use Rattle.std.specs.Option.{option_map, option_and_then}
 use Rattle.std.proofs.lemmas.Option.{none-some, same_Some}
-use Rattle.std.proofs.lemmas.Bool.{both_ways, cases_lt, false≢true}
+use Rattle.std.proofs.lemmas.Bool.{both_ways, cases_lt}
 use Rattle.hy_record.specs.declared.action.Action.{Action}
 use Rattle.hy_record.specs.declared.action.Action.TheVariants as asked
 use Rattle.hy_record.specs.declared.message.MetaAsk.TheVariants as asks
 use Rattle.hy_record.specs.declared.message.MetaSay.TheVariants as says
 use Rattle.hy_record.specs.declared.turn.Cue.{Cue}
+use Rattle.hy_record.specs.Key.{is_cell}
 use Rattle.hy_record.specs.Record.{RecordValue}
-use Rattle.hy_record.specs.Stamp.{Timestamp, stamp_lt, next_stamp}
-use Rattle.hy_record.proofs.Order.{stamp_lt-same, stamp_lt-neither, stamp_eq-true}
+use Rattle.hy_record.specs.Stamp.{Timestamp, stamp_lt, stamp_eq, next_stamp}
+use Rattle.hy_record.proofs.Order.{stamp_lt-same, stamp_lt-neither, stamp_eq-true, stamp_eq-same}
 use Rattle.hy_meta.specs.Service.{stamp_of_record}
 use Rattle.hy_meta.proofs.Lasting.{applied-tried}
 use Rattle.hy_meta.proofs.Rising.{cases_bool}
-use Rattle.hy_protocol.specs.Operations.{key_of, write_plan, replied}
+use Rattle.hy_protocol.specs.Operations.{key_of, suits, write_plan, replied}
 use Rattle.hy_protocol.specs.Read.{version_of, read_reply}
 use Rattle.hy_protocol.specs.Write.{first_has, own_stamp, stamp_upon, write_reply}
 use Rattle.hy_points.specs.declared.point.ActKind.{ActKind}
 use Rattle.hy_points.specs.declared.point.ActKind.TheVariants as acts
 use Rattle.hy_points.specs.Atomic.{no_stamp, writes}
-use Rattle.hy_points.specs.Runs.{Reading, Writing, Run, MayReturn, ReadsWell, WritesWell, IsRaised, AreRuns}
-use Rattle.hy_points.specs.Stamps.{is_swap}
+use Rattle.hy_points.specs.Runs.{Reading, Writing, Trial, Run, MayReturn, ReadsWell, WritesWell, TriesWell, Raises, IsRaised, AreRuns}
+use Rattle.hy_points.proofs.Swapping.{swap-same}
 use Rattle.hy_trace.specs.Deeds.{Params, Deed, Joined, Began, Handed, Served, Granted, Stopped, Nothing, Start, served, inputs_of, start_of, start_at, reply_of}
 use Rattle.hy_trace.specs.History.{Return, return_of, Begun, begun_of}
 use Rattle.hy_trace.specs.Messages.{Say, IsSentAt}
@@ -32,18 +33,18 @@ use Rattle.hy_trace.proofs.Growth.{zero_stamp, zero-least, or-first, or-cases, s
 use Rattle.hy_theorems.specs.Writing.{Change, Puts, Deletes, Swaps, change_value, change_expected, change_action, IsMet, IsWriting}
 use Rattle.hy_theorems.proofs.Apart.{own-has, replies-by, replied-write, start-trace}
 use Rattle.hy_theorems.proofs.Beginnings.{begun}
-use Rattle.hy_theorems.proofs.Invariant.{by-means, trace-holds}
+use Rattle.hy_theorems.proofs.Invariant.{by-means, trace-holds, start-suits}
 use Rattle.hy_theorems.proofs.Meaning.{IsUpdating, ask_with}
 use Rattle.hy_theorems.proofs.Overwritten.{applied-was, first-applied, own-update, at-applied}
 use Rattle.hy_theorems.proofs.Points.{version-returned, answered-version}
 use Rattle.hy_theorems.proofs.ReadPoints.{has-at, reply-version}
 use Rattle.hy_theorems.proofs.RealTime.{returned-within, return-reply, shorter}
 use Rattle.hy_theorems.proofs.TopAt.{top_at, at-rises, IsServedUpdate, first-served, tried-first}
-use Rattle.hy_theorems.proofs.Writes.{key_of-write, update-own}
-use Rattle.hy_log.specs.Courses.{first_made, version_stamp}
-use Rattle.hy_log.specs.Points.{HasNoSwaps}
+use Rattle.hy_theorems.proofs.Writes.{key_of-write, update-own, SwapReplies}
+use Rattle.hy_log.specs.Courses.{first_made, version_stamp, stamp_before}
 use Rattle.hy_log.proofs.Coursing.{never-replied}
 use Rattle.hy_log.proofs.DeedAt.{deed_at, read-deed, read-late, begin-deed, update-deed, end-deed, return-late}
+use Rattle.hy_log.proofs.Judging.{before-at, stamp_eq-flip, swap-judged, swap-replies, judged-before}
 use Rattle.hy_log.proofs.FirstMade.{first-sent, version-sent, told-before, first-returned, free-reply, updated-before}
 
 -- ---- the run of an operation
@@ -56,6 +57,17 @@ writing_with stamp None = None
 writing_with None (Some u) = None
 writing_with (Some stamp) (Some u) = Some (record { step = u.step; stamp = stamp; is_applied = u.is_applied })
 
+-- what a swap tried, by its own timestamp and the attempt that was judged
+abbrev pub trial_with : List Deed → Option Timestamp → Option Update → Option Trial
+trial_with t stamp None = None
+trial_with t None (Some u) = None
+trial_with t (Some stamp) (Some u) = Some (record { step = u.step; stamp = stamp; found = stamp_before t u.key u.step })
+
+abbrev pub change_act : Change → ActKind
+change_act (Puts v) = acts.Put
+change_act Deletes = acts.Delete
+change_act (Swaps e v) = acts.Swap e
+
 module _ (p : Params) (t : List Deed) where
   abbrev pub first_reading : Begun → Option Reading
   first_reading b = option_map (λ held. record { step = first_made b.client b.op t; found = stamp_of_record held }) (first_has (inputs_of b.client b.op t))
@@ -66,18 +78,44 @@ module _ (p : Params) (t : List Deed) where
   abbrev pub own_writing : Begun → List ℕ → Option (List ℕ) → Option Writing
   own_writing b key value = writing_with (own_stamp (write_plan p.f p.k b.client b.op key value) (inputs_of b.client b.op t)) (first_update (is_own b.client b.op) t)
 
+  abbrev pub own_trial : Begun → List ℕ → List ℕ → Option Trial
+  own_trial b key value = trial_with t (own_stamp (write_plan p.f p.k b.client b.op key (Some value)) (inputs_of b.client b.op t)) (first_update (is_own b.client b.op) t)
+
+  -- a put or a delete writes, and a swap tries to
+  abbrev pub change_set : Begun → List ℕ → Change → Option Writing
+  change_set b key (Puts v) = own_writing b key (Some v)
+  change_set b key Deletes = own_writing b key None
+  change_set b key (Swaps e v) = None
+
+  abbrev pub change_trial : Begun → List ℕ → Change → Option Trial
+  change_trial b key (Puts v) = None
+  change_trial b key Deletes = None
+  change_trial b key (Swaps e v) = own_trial b key v
+
   abbrev pub own_end : Begun → Option ℕ
   own_end b = option_map (λ (r : Return). r.at) (return_of p b.client b.op t)
 
-  abbrev pub run_with : Begun → List ℕ → ActKind → Option Reading → Option Writing → Run
-  run_with b key act asked_ set = record { op = number_of b; client = b.client; key = key; act = act; begun = length b.start.before + 1; asked = asked_; set = set; ended = own_end b }
+  abbrev pub run_with : Begun → List ℕ → ActKind → Option Reading → Option Writing → Option Trial → Run
+  run_with b key act asked_ set tried = record { op = number_of b; client = b.client; key = key; act = act; begun = length b.start.before + 1; asked = asked_; set = set; tried = tried; ended = own_end b }
+
+  -- the run of a put, a delete or a swap, and that of a get
+  abbrev pub change_run : Begun → List ℕ → Change → Run
+  change_run b key change = run_with b key (change_act change) (first_reading b) (change_set b key change) (change_trial b key change)
+
+  abbrev pub get_run : Begun → List ℕ → Run
+  get_run b key = run_with b key acts.Get (version_reading b) None None
 
   abbrev pub run_by : Begun → Action → Option Run
-  run_by b (asked.Put key value) = Some (run_with b key acts.Put (first_reading b) (own_writing b key (Some value)))
-  run_by b (asked.Delete key) = Some (run_with b key acts.Delete (first_reading b) (own_writing b key None))
-  run_by b (asked.Get key) = Some (run_with b key acts.Get (version_reading b) None)
+  run_by b (asked.Put key value) = Some (change_run b key (Puts value))
+  run_by b (asked.Delete key) = Some (change_run b key Deletes)
+  run_by b (asked.Get key) = Some (get_run b key)
   run_by b (asked.Collect key) = None
-  run_by b (asked.Swap key expected value) = None
+  run_by b (asked.Swap key expected value) = Some (change_run b key (Swaps expected value))
+
+  pub change-run-is : (b : Begun) (key : List ℕ) (change : Change) → run_by b (change_action key change) ≡ Some (change_run b key change)
+  change-run-is b key (Puts v) = refl
+  change-run-is b key Deletes = refl
+  change-run-is b key (Swaps e v) = refl
 
   -- the run is that of an operation of the trace
   pub record IsRun (run : Run) : Type 0 where
@@ -85,30 +123,25 @@ module _ (p : Params) (t : List Deed) where
     pub began : start_of b.client b.op t ≡ Some b.start
     pub is : run_by b b.start.action ≡ Some run
 
-  -- a write with its value, or a get
+  -- a put, a delete or a swap, or a get
   pub record IsWriteRun (b : Begun) (run : Run) : Type 0 where
     pub change : Change
     pub action_is : b.start.action ≡ change_action run.key change
-    pub free : change_expected change ≡ None
-    pub act_is : (run.act ≡ acts.Put) ⊎ (run.act ≡ acts.Delete)
-    pub run_is : run ≡ run_with b run.key run.act (first_reading b) (own_writing b run.key (change_value change))
+    pub run_is : run ≡ change_run b run.key change
 
   pub record IsReadRun (b : Begun) (run : Run) : Type 0 where
     pub action_is : b.start.action ≡ asked.Get run.key
-    pub run_is : run ≡ run_with b run.key acts.Get (version_reading b) None
+    pub run_is : run ≡ get_run b run.key
+
+  of-change : (b : Begun) (run : Run) (key : List ℕ) (change : Change) → b.start.action ≡ change_action key change → Some (change_run b key change) ≡ Some run → IsWriteRun b run ⊎ IsReadRun b run
+  of-change b run key change action is = inl (subst (IsWriteRun b) (same_Some (change_run b key change) run is) (record { change = change; action_is = action; run_is = refl }))
 
   pub kind-of : (b : Begun) (run : Run) (a : Action) → b.start.action ≡ a → run_by b a ≡ Some run → IsWriteRun b run ⊎ IsReadRun b run
-  kind-of b run (asked.Put key value) action is =
-      let same : run_with b key acts.Put (first_reading b) (own_writing b key (Some value)) ≡ run = same_Some (run_with b key acts.Put (first_reading b) (own_writing b key (Some value))) run is in
-      inl (subst (IsWriteRun b) same (record { change = Puts value; action_is = action; free = refl; act_is = inl refl; run_is = refl }))
-  kind-of b run (asked.Delete key) action is =
-      let same : run_with b key acts.Delete (first_reading b) (own_writing b key None) ≡ run = same_Some (run_with b key acts.Delete (first_reading b) (own_writing b key None)) run is in
-      inl (subst (IsWriteRun b) same (record { change = Deletes; action_is = action; free = refl; act_is = inr refl; run_is = refl }))
-  kind-of b run (asked.Get key) action is =
-      let same : run_with b key acts.Get (version_reading b) None ≡ run = same_Some (run_with b key acts.Get (version_reading b) None) run is in
-      inr (subst (IsReadRun b) same (record { action_is = action; run_is = refl }))
+  kind-of b run (asked.Put key value) action is = of-change b run key (Puts value) action is
+  kind-of b run (asked.Delete key) action is = of-change b run key Deletes action is
+  kind-of b run (asked.Swap key expected value) action is = of-change b run key (Swaps expected value) action is
+  kind-of b run (asked.Get key) action is = inr (subst (IsReadRun b) (same_Some (get_run b key) run is) (record { action_is = action; run_is = refl }))
   kind-of b run (asked.Collect key) action is = absurd (none-some run is)
-  kind-of b run (asked.Swap key expected value) action is = absurd (none-some run is)
 
   pub kind : (run : Run) → (is : IsRun run) → IsWriteRun is.b run ⊎ IsReadRun is.b run
   kind run is = kind-of is.b run is.b.start.action refl is.is
@@ -130,6 +163,30 @@ writing-parts None (Some u) w is = absurd (none-some w is)
 writing-parts (Some s) (Some u) w is =
     let same = same_Some (record { step = u.step; stamp = s; is_applied = u.is_applied }) w is in
     (u, refl, ap (λ (x : Writing). Some x.stamp) same, sym (ap (λ (x : Writing). x.step) same), sym (ap (λ (x : Writing). x.is_applied) same))
+
+pub trial-parts : (t : List Deed) (stamp : Option Timestamp) (u : Option Update) (r : Trial) → trial_with t stamp u ≡ Some r → (x : Update) × (u ≡ Some x) × (stamp ≡ Some r.stamp) × (r.step ≡ x.step) × (r.found ≡ stamp_before t x.key x.step)
+trial-parts t stamp None r is = absurd (none-some r is)
+trial-parts t None (Some u) r is = absurd (none-some r is)
+trial-parts t (Some s) (Some u) r is =
+    let same = same_Some (record { step = u.step; stamp = s; found = stamp_before t u.key u.step }) r is in
+    (u, refl, ap (λ (x : Trial). Some x.stamp) same, sym (ap (λ (x : Trial). x.step) same), sym (ap (λ (x : Trial). x.found) same))
+
+-- what wrote is a put or a delete, and what tried a swap
+pub set-change : (p : Params) (t : List Deed) (b : Begun) (key : List ℕ) (change : Change) (w : Writing) → change_set p t b key change ≡ Some w → (change_expected change ≡ None) × (writes (change_act change) ≡ true) × (own_writing p t b key (change_value change) ≡ Some w)
+set-change p t b key (Puts v) w is = (refl, refl, is)
+set-change p t b key Deletes w is = (refl, refl, is)
+set-change p t b key (Swaps e v) w is = absurd (none-some w is)
+
+pub record IsSwapChange (p : Params) (t : List Deed) (b : Begun) (key : List ℕ) (change : Change) (r : Trial) : Type 0 where
+  pub expected : Timestamp
+  pub value : List ℕ
+  pub is : change ≡ Swaps expected value
+  pub trial : own_trial p t b key value ≡ Some r
+
+pub trial-change : (p : Params) (t : List Deed) (b : Begun) (key : List ℕ) (change : Change) (r : Trial) → change_trial p t b key change ≡ Some r → IsSwapChange p t b key change r
+trial-change p t b key (Puts v) r is = absurd (none-some r is)
+trial-change p t b key Deletes r is = absurd (none-some r is)
+trial-change p t b key (Swaps e v) r is = record { expected = e; value = v; is = refl; trial = is }
 
 -- steps of unlike deeds differ
 below : (m n : ℕ) → m ≤ n → (m ≡ n → ⊥) → m < n
@@ -215,13 +272,7 @@ free-met (Puts v) inputs free = tt
 free-met Deletes inputs free = tt
 free-met (Swaps e v) inputs free = absurd (none-some e (sym free))
 
--- a write that is no swap expects nothing
-pub no-swap : {a : Action} (key : List ℕ) (change : Change) → is_swap a ≡ false → a ≡ change_action key change → change_expected change ≡ None
-no-swap key (Puts v) none action = refl
-no-swap key Deletes none action = refl
-no-swap key (Swaps e v) none action = absurd (false≢true (sym none ∙ ap is_swap action))
-
-module _ (p : Params) (t : List Deed) (trace : IsTrace p t) (none : HasNoSwaps t) where
+module _ (p : Params) (t : List Deed) (trace : IsTrace p t) where
   same-run : (a b : Run) → (x : IsRun p t a) → (y : IsRun p t b) → length x.b.start.before ≡ length y.b.start.before → a ≡ b
   same-run a b x y same =
       let names = one-start x.b.client x.b.op y.b.client y.b.op t x.b.start y.b.start x.began y.began same in
@@ -287,8 +338,8 @@ module _ (p : Params) (t : List Deed) (trace : IsTrace p t) (none : HasNoSwaps t
   -- a reading by an answer that tells the record
   well-read : (run : Run) (r : Reading) (b : Begun) → start_of b.client b.op t ≡ Some b.start → (w : ℕ) (held : Option RecordValue) → IsSentAt p t w (Say (says.Has b.client b.op (key_of b.start.action) held))
       → w ≡ r.step → stamp_of_record held ≡ r.found → key_of b.start.action ≡ run.key → run.begun ≡ length b.start.before + 1 → run.ended ≡ own_end p t b
-      → ((x : Return) → return_of p b.client b.op t ≡ Some x → w ≤ x.at) → ((y : Writing) → run.set ≡ Some y → r.step < y.step) → ReadsWell (top_at t) run r
-  well-read run r b began w held sent step stamp key begun_ ended_ upto sooner =
+      → ((x : Return) → return_of p b.client b.op t ≡ Some x → w ≤ x.at) → ((y : Writing) → run.set ≡ Some y → r.step < y.step) → ((y : Trial) → run.tried ≡ Some y → r.step < y.step) → ReadsWell (top_at t) run r
+  well-read run r b began w held sent step stamp key begun_ ended_ upto sooner tries_ =
       let deed = read-deed p t w b.client b.op (key_of b.start.action) held sent in
       let at = has-at p t w b.client b.op (key_of b.start.action) held sent in
       let strict = read-begun b began w (key_of b.start.action) deed in
@@ -301,6 +352,7 @@ module _ (p : Params) (t : List Deed) (trace : IsTrace p t) (none : HasNoSwaps t
             let same = x.2 in
             omega (arith, step, less, same));
         set = sooner;
+        tried = tries_;
       }
 
   first-reads : (run : Run) (r : Reading) (b : Begun) → start_of b.client b.op t ≡ Some b.start → (w : IsWriteRun p t b run) → run.asked ≡ Some r → ReadsWell (top_at t) run r
@@ -310,7 +362,14 @@ module _ (p : Params) (t : List Deed) (trace : IsTrace p t) (none : HasNoSwaps t
       well-read run r b began (first_made b.client b.op t) found.0 (first-sent p b.client b.op t trace b.start began found.0 found.1) step (ap (λ (x : Reading). x.found) found.2) (write-key b run w)
       (ap (λ (x : Run). x.begun) w.run_is) (ap (λ (x : Run). x.ended) w.run_is) (λ x returned. first-returned p b.client b.op t x trace returned)
       (λ writing has. (
-      let x = writing-parts (own_stamp (write_plan p.f p.k b.client b.op run.key (change_value w.change)) (inputs_of b.client b.op t)) (first_update (is_own b.client b.op) t) writing (sym (ap (λ (y : Run). y.set) w.run_is) ∙ has) in
+      let c = set-change p t b run.key w.change writing (sym (ap (λ (y : Run). y.set) w.run_is) ∙ has) in
+      let x = writing-parts (own_stamp (write_plan p.f p.k b.client b.op run.key (change_value w.change)) (inputs_of b.client b.op t)) (first_update (is_own b.client b.op) t) writing c.2 in
+      let told_ = (told-before p b.client b.op t trace x.0 x.1).sooner in
+      let same = x.3 in
+      omega (arith, step, told_, same)))
+      (λ trial has. (
+      let c = trial-change p t b run.key w.change trial (sym (ap (λ (y : Run). y.tried) w.run_is) ∙ has) in
+      let x = trial-parts t (own_stamp (write_plan p.f p.k b.client b.op run.key (Some c.value)) (inputs_of b.client b.op t)) (first_update (is_own b.client b.op) t) trial c.trial in
       let told_ = (told-before p b.client b.op t trace x.0 x.1).sooner in
       let same = x.3 in
       omega (arith, step, told_, same)))
@@ -321,19 +380,17 @@ module _ (p : Params) (t : List Deed) (trace : IsTrace p t) (none : HasNoSwaps t
       well-read run r b began (version_made b.client b.op t) found.0.rec (version-sent p b.client b.op t trace b.start began found.0 found.1) (ap (λ (x : Reading). x.step) found.2) (ap (λ (x : Reading). x.found) found.2) (ap key_of w.action_is)
       (ap (λ (x : Run). x.begun) w.run_is) (ap (λ (x : Run). x.ended) w.run_is) (λ x returned. version-returned p b.client b.op t x trace returned)
       (λ writing has. absurd (none-some writing (sym (ap (λ (y : Run). y.set) w.run_is) ∙ has)))
+      (λ trial has. absurd (none-some trial (sym (ap (λ (y : Run). y.tried) w.run_is) ∙ has)))
 
   -- the write of a run
-  abbrev is-writing : (run : Run) (b : Begun) (stamp : Timestamp) → start_of b.client b.op t ≡ Some b.start → (w : IsWriteRun p t b run) → own_stamp (write_plan p.f p.k b.client b.op run.key (change_value w.change)) (inputs_of b.client b.op t) ≡ Some stamp → IsWriting p b.client b.op run.key stamp t
-  is-writing run b stamp began w own = record { start = b.start; began = began; change = w.change; action_is = w.action_is; met = free-met w.change (inputs_of b.client b.op t) w.free; own = own }
-
-  writes-act : (act : ActKind) → (act ≡ acts.Put) ⊎ (act ≡ acts.Delete) → writes act ≡ true
-  writes-act act (inl is) = ap writes is
-  writes-act act (inr is) = ap writes is
+  abbrev is-writing : (run : Run) (b : Begun) (stamp : Timestamp) → start_of b.client b.op t ≡ Some b.start → (w : IsWriteRun p t b run) → change_expected w.change ≡ None → own_stamp (write_plan p.f p.k b.client b.op run.key (change_value w.change)) (inputs_of b.client b.op t) ≡ Some stamp → IsWriting p b.client b.op run.key stamp t
+  is-writing run b stamp began w free own = record { start = b.start; began = began; change = w.change; action_is = w.action_is; met = free-met w.change (inputs_of b.client b.op t) free; own = own }
 
   own-writes : (run : Run) (writing : Writing) (b : Begun) → start_of b.client b.op t ≡ Some b.start → (w : IsWriteRun p t b run) → run.set ≡ Some writing → WritesWell (top_at t) run writing
   own-writes run writing b began w is =
-      let x = writing-parts (own_stamp (write_plan p.f p.k b.client b.op run.key (change_value w.change)) (inputs_of b.client b.op t)) (first_update (is_own b.client b.op) t) writing (sym (ap (λ (y : Run). y.set) w.run_is) ∙ is) in
-      let wr = is-writing run b writing.stamp began w x.2 in
+      let c = set-change p t b run.key w.change writing (sym (ap (λ (y : Run). y.set) w.run_is) ∙ is) in
+      let x = writing-parts (own_stamp (write_plan p.f p.k b.client b.op run.key (change_value w.change)) (inputs_of b.client b.op t)) (first_update (is_own b.client b.op) t) writing c.2 in
+      let wr = is-writing run b writing.stamp began w c.0 x.2 in
       let plan = write_plan p.f p.k b.client b.op run.key (change_value w.change) in
       let has = own-has plan (inputs_of b.client b.op t) writing.stamp x.2 in
       let served_ = (first-served (is_own b.client b.op) t x.0 x.1).0 in
@@ -341,14 +398,14 @@ module _ (p : Params) (t : List Deed) (trace : IsTrace p t) (none : HasNoSwaps t
       let u = update-deed b.client b.op t x.0 x.1 in
       let step = x.3 in
       record {
-        is_write = writes-act run.act w.act_is;
+        is_write = ap (λ (y : Run). writes y.act) w.run_is ∙ c.1;
         reading = record { step = first_made b.client b.op t; found = stamp_of_record has.0 };
         asked = ap (λ (y : Run). y.asked) w.run_is ∙ ap (option_map (λ held. record { step = first_made b.client b.op t; found = stamp_of_record held })) has.1;
         next = ap (next_stamp (stamp_of_record has.0)) (ap (λ (y : Run). y.client) w.run_is) ∙ has.2;
-        applies = λ n e. x.4 ∙ applies x.0 served_ (of.0, of.1) (of.2 ∙ w.free) n (e ∙ step) (x.0.is_applied) refl;
+        applies = λ n e. x.4 ∙ applies x.0 served_ (of.0, of.1) (of.2 ∙ c.0) n (e ∙ step) (x.0.is_applied) refl;
         ended = λ end ended. (
             let r = ended-return b began run end (ap (λ (y : Run). y.ended) w.run_is) ended in
-            let v = updated-before p b.client b.op t trace run.key w.change w.free b.start began w.action_is writing.stamp x.2 r.0 r.1 in
+            let v = updated-before p b.client b.op t trace run.key w.change c.0 b.start began w.action_is writing.stamp x.2 r.0 r.1 in
             let one = ap (λ (y : Update). y.step) (same_Some v.0 x.0 (sym v.1 ∙ x.1)) in
             let le = v.2 in
             let same = r.2 in
@@ -362,15 +419,44 @@ module _ (p : Params) (t : List Deed) (trace : IsTrace p t) (none : HasNoSwaps t
       applies u served_ of free n e false refused =
           refused ∙ sym (ap (λ (k : List ℕ). stamp_lt (top_at t k n) writing.stamp) (sym of.0) ∙ (ap (stamp_lt (top_at t u.key n)) (sym of.1) ∙ served_.refused refused free n e))
 
-  write-returns : (run : Run) (b : Begun) → start_of b.client b.op t ≡ Some b.start → (w : IsWriteRun p t b run) → (r : Return) → return_of p b.client b.op t ≡ Some r
+  -- the try of a run
+  own-tries : (run : Run) (trial : Trial) (b : Begun) → start_of b.client b.op t ≡ Some b.start → (w : IsWriteRun p t b run) → run.tried ≡ Some trial → TriesWell (top_at t) run trial
+  own-tries run trial b began w is =
+      let c = trial-change p t b run.key w.change trial (sym (ap (λ (y : Run). y.tried) w.run_is) ∙ is) in
+      let x = trial-parts t (own_stamp (write_plan p.f p.k b.client b.op run.key (Some c.value)) (inputs_of b.client b.op t)) (first_update (is_own b.client b.op) t) trial c.trial in
+      let action : b.start.action ≡ asked.Swap run.key c.expected c.value = w.action_is ∙ ap (change_action run.key) c.is in
+      let j = swap-judged p t trace b began run.key c.expected c.value action x.0 x.1 in
+      let u = update-deed b.client b.op t x.0 x.1 in
+      let within = (first-served (is_own b.client b.op) t x.0 x.1).0.within in
+      let stamp : trial.stamp ≡ x.0.stamp = same_Some trial.stamp x.0.stamp (sym x.2 ∙ j.own) in
+      let step = x.3 in
+      record {
+        expected = c.expected;
+        is_swap = ap (λ (y : Run). y.act) w.run_is ∙ ap change_act c.is;
+        reading = record { step = first_made b.client b.op t; found = stamp_of_record j.met.0 };
+        asked = ap (λ (y : Run). y.asked) w.run_is ∙ ap (option_map (λ held. record { step = first_made b.client b.op t; found = stamp_of_record held })) j.met.1;
+        as_expected = j.met.2;
+        next = ap (next_stamp c.expected) (ap (λ (y : Run). y.client) w.run_is) ∙ (j.next ∙ ap Some (sym stamp));
+        finds = λ n e. x.4 ∙ (before-at t x.0.key x.0.step n (e ∙ step) within ∙ ap (λ (k : List ℕ). top_at t k n) j.key_is);
+        ended = λ end ended. (
+            let r = ended-return b began run end (ap (λ (y : Run). y.ended) w.run_is) ended in
+            let v = judged-before p t trace b began run.key c.expected c.value action j.met x.0.stamp j.own r.0 r.1 in
+            let one = ap (λ (y : Update). y.step) (same_Some v.0 x.0 (sym v.1 ∙ x.1)) in
+            let le = v.2 in
+            let same = r.2 in
+            let less = before-end b began x.0.step r.0 (Served (ask_with u.attempt u.attempt.expected)) (λ n cue f. cc) r.1 u.deed (omega (arith, one, le)) in
+            omega (arith, step, less, same));
+      }
+
+  write-returns : (run : Run) (b : Begun) → start_of b.client b.op t ≡ Some b.start → (w : IsWriteRun p t b run) → change_expected w.change ≡ None → change_set p t b run.key w.change ≡ own_writing p t b run.key (change_value w.change) → (r : Return) → return_of p b.client b.op t ≡ Some r
       → ((x : Writing) × (run.set ≡ Some x)) ⊎ ((x : Reading) × (run.asked ≡ Some x) × (next_stamp x.found run.client ≡ None))
   unfolding own_stamp
-  write-returns run b began w r returned =
+  write-returns run b began w free set_is r returned =
       let inputs = inputs_of b.client b.op t in
       let plan = write_plan p.f p.k b.client b.op run.key (change_value w.change) in
       let h = return-reply p b.client b.op t r trace returned in
       let same : h.start ≡ b.start = start-same b.client b.op t h.start b.start h.began began in
-      let replies : write_reply plan inputs ≡ Some r.reply = sym (replied-write p b.client b.op run.key w.change inputs ∙ free-reply plan w.change inputs w.free) ∙ (ap (λ (a : Action). replied p.f p.k b.client b.op a inputs) (sym (ap (λ (s : Start). s.action) same ∙ w.action_is)) ∙ h.replies) in
+      let replies : write_reply plan inputs ≡ Some r.reply = sym (replied-write p b.client b.op run.key w.change inputs ∙ free-reply plan w.change inputs free) ∙ (ap (λ (a : Action). replied p.f p.k b.client b.op a inputs) (sym (ap (λ (s : Start). s.action) same ∙ w.action_is)) ∙ h.replies) in
       let by = replies-by plan inputs r.reply replies in
       by_stamp by.held by.has (next_stamp (stamp_of_record by.held) b.client) refl
     where
@@ -383,14 +469,36 @@ module _ (p : Params) (t : List Deed) (trace : IsTrace p t) (none : HasNoSwaps t
       )
       by_stamp held has (Some x) next =
           (let own : own_stamp (write_plan p.f p.k b.client b.op run.key (change_value w.change)) (inputs_of b.client b.op t) ≡ Some x = has-own held has x next in
-          let u = updated-before p b.client b.op t trace run.key w.change w.free b.start began w.action_is x own r returned in
+          let u = updated-before p b.client b.op t trace run.key w.change free b.start began w.action_is x own r returned in
           inl (
             record { step = u.0.step; stamp = x; is_applied = u.0.is_applied },
-            ap (λ (y : Run). y.set) w.run_is ∙ (ap (λ (s : Option Timestamp). writing_with s (first_update (is_own b.client b.op) t)) own ∙ ap (writing_with (Some x)) u.1),
+            ap (λ (y : Run). y.set) w.run_is ∙ (set_is ∙ ap (λ (s : Option Timestamp). writing_with s (first_update (is_own b.client b.op) t)) own ∙ ap (writing_with (Some x)) u.1),
           ))
         where
           has-own : (held : Option RecordValue) → first_has (inputs_of b.client b.op t) ≡ Some held → (x : Timestamp) → next_stamp (stamp_of_record held) b.client ≡ Some x → own_stamp (write_plan p.f p.k b.client b.op run.key (change_value w.change)) (inputs_of b.client b.op t) ≡ Some x
           has-own held has x next = ap (option_and_then (stamp_upon b.client)) has ∙ next
+
+  -- how a swap returns
+  swap-returns : (run : Run) (b : Begun) → start_of b.client b.op t ≡ Some b.start → (w : IsWriteRun p t b run) → (e : Timestamp) (v : List ℕ) → w.change ≡ Swaps e v → (r : Return) → return_of p b.client b.op t ≡ Some r → MayReturn run (acts.Swap e)
+  swap-returns run b began w e v is r returned = by_reply (swap-replies p t trace b began run.key e v action r returned).1
+    where
+      action : b.start.action ≡ asked.Swap run.key e v
+      action = w.action_is ∙ ap (change_action run.key) is
+
+      reading : (held : Option RecordValue) → first_has (inputs_of b.client b.op t) ≡ Some held → run.asked ≡ Some (record { step = first_made b.client b.op t; found = stamp_of_record held })
+      reading held has = ap (λ (y : Run). y.asked) w.run_is ∙ ap (option_map (λ h. record { step = first_made b.client b.op t; found = stamp_of_record h })) has
+
+      by_reply : SwapReplies (write_plan p.f p.k b.client b.op run.key (Some v)) e (inputs_of b.client b.op t) r.reply → MayReturn run (acts.Swap e)
+      by_reply (inr (inl changed)) = inr (record { step = first_made b.client b.op t; found = stamp_of_record changed.held }, reading changed.held changed.has, inl (stamp_eq-flip (stamp_of_record changed.held) e false changed.other))
+      by_reply (inr (inr ended)) = inr (record { step = first_made b.client b.op t; found = stamp_of_record ended.held }, reading ended.held ended.has, inr (ap (next_stamp (stamp_of_record ended.held)) (ap (λ (y : Run). y.client) w.run_is) ∙ ended.none))
+      by_reply (inl a) =
+          (let own = update-own (write_plan p.f p.k b.client b.op run.key (Some v)) (inputs_of b.client b.op t) a.rec a.update in
+          let u = judged-before p t trace b began run.key e v action a.met a.rec.stamp own r returned in
+          inl (
+            record { step = u.0.step; stamp = a.rec.stamp; found = stamp_before t u.0.key u.0.step },
+            ap (λ (y : Run). y.tried) w.run_is ∙ (ap (change_trial p t b run.key) is
+                ∙ (ap (λ (s : Option Timestamp). trial_with t s (first_update (is_own b.client b.op) t)) own ∙ ap (trial_with t (Some a.rec.stamp)) u.1)),
+          ))
 
   -- ---- the record
 
@@ -403,6 +511,12 @@ module _ (p : Params) (t : List Deed) (trace : IsTrace p t) (none : HasNoSwaps t
     | inr w ↦ absurd (none-some writing (sym (ap (λ (y : Run). y.set) w.run_is) ∙ has))
   ]
 
+  tries : (run : Run) (r : Trial) → IsRun p t run → run.tried ≡ Some r → TriesWell (top_at t) run r
+  tries run trial is has = elim (kind p t run is) [
+    | inl w ↦ own-tries run trial is.b is.began w has
+    | inr w ↦ absurd (none-some trial (sym (ap (λ (y : Run). y.tried) w.run_is) ∙ has))
+  ]
+
   ends : (run : Run) (end : ℕ) → IsRun p t run → run.ended ≡ Some end → (run.begun < end) × MayReturn run run.act
   unfolding replied
   ends run end is has =
@@ -412,11 +526,15 @@ module _ (p : Params) (t : List Deed) (trace : IsTrace p t) (none : HasNoSwaps t
       let late = return-late p is.b.client is.b.op t r.0 is.b.start trace r.1 is.began in
       let less = below (length is.b.start.before + 1) r.0.at late (λ same. unlike is.b is.began (deed_at t r.0.at) (Began is.b.client is.b.op is.b.start.action) (Handed is.b.client is.b.op e.0 e.1) (λ x. cc) (ap (deed_at t) (sym same) ∙ begin-at is.b is.began) e.2) in
       let fb = f.2 in let same = r.2 in
-      (omega (arith, fb, less, same), elim (kind p t run is) [ inl w ↦ write-may w r.0 r.1 (run.act) w.act_is | inr w ↦ subst (MayReturn run) (sym (ap (λ (x : Run). x.act) w.run_is)) (read-may w r.0 r.1) ])
+      (omega (arith, fb, less, same), elim (kind p t run is) [ inl w ↦ write-may w w.change refl r.0 r.1 | inr w ↦ subst (MayReturn run) (sym (ap (λ (x : Run). x.act) w.run_is)) (read-may w r.0 r.1) ])
     where
-      write-may : IsWriteRun p t is.b run → (r : Return) → return_of p is.b.client is.b.op t ≡ Some r → (act : ActKind) → (act ≡ acts.Put) ⊎ (act ≡ acts.Delete) → MayReturn run act
-      write-may w r returned act (inl put) = subst (MayReturn run) (sym put) (write-returns run is.b is.began w r returned)
-      write-may w r returned act (inr delete) = subst (MayReturn run) (sym delete) (write-returns run is.b is.began w r returned)
+      set-same : (w : IsWriteRun p t is.b run) → (change : Change) → w.change ≡ change → change_set p t is.b run.key change ≡ own_writing p t is.b run.key (change_value change) → change_set p t is.b run.key w.change ≡ own_writing p t is.b run.key (change_value w.change)
+      set-same w change same own = subst (λ (c : Change). change_set p t is.b run.key c ≡ own_writing p t is.b run.key (change_value c)) (sym same) own
+
+      write-may : (w : IsWriteRun p t is.b run) → (change : Change) → w.change ≡ change → (r : Return) → return_of p is.b.client is.b.op t ≡ Some r → MayReturn run run.act
+      write-may w (Puts v) same r returned = subst (MayReturn run) (sym (ap (λ (x : Run). x.act) w.run_is ∙ ap change_act same)) (write-returns run is.b is.began w (ap change_expected same) (set-same w (Puts v) same refl) r returned)
+      write-may w Deletes same r returned = subst (MayReturn run) (sym (ap (λ (x : Run). x.act) w.run_is ∙ ap change_act same)) (write-returns run is.b is.began w (ap change_expected same) (set-same w Deletes same refl) r returned)
+      write-may w (Swaps e v) same r returned = subst (MayReturn run) (sym (ap (λ (x : Run). x.act) w.run_is ∙ ap change_act same)) (swap-returns run is.b is.began w e v same r returned)
 
       read-may : IsReadRun p t is.b run → (r : Return) → return_of p is.b.client is.b.op t ≡ Some r → MayReturn run acts.Get
       read-may w r returned =
@@ -434,14 +552,54 @@ module _ (p : Params) (t : List Deed) (trace : IsTrace p t) (none : HasNoSwaps t
   applied-update run writing is has applied = elim (kind p t run is) [
     | inr w ↦ absurd (none-some writing (sym (ap (λ (y : Run). y.set) w.run_is) ∙ has))
     | inl w ↦
-        let x = writing-parts (own_stamp (write_plan p.f p.k is.b.client is.b.op run.key (change_value w.change)) (inputs_of is.b.client is.b.op t)) (first_update (is_own is.b.client is.b.op) t) writing (sym (ap (λ (y : Run). y.set) w.run_is) ∙ has) in
-        let of = own-update p t trace is.b.client is.b.op run.key writing.stamp (is-writing run is.b writing.stamp is.began w x.2) x.0 x.1 in
+        let c = set-change p t is.b run.key w.change writing (sym (ap (λ (y : Run). y.set) w.run_is) ∙ has) in
+        let x = writing-parts (own_stamp (write_plan p.f p.k is.b.client is.b.op run.key (change_value w.change)) (inputs_of is.b.client is.b.op t)) (first_update (is_own is.b.client is.b.op) t) writing c.2 in
+        let of = own-update p t trace is.b.client is.b.op run.key writing.stamp (is-writing run is.b writing.stamp is.began w c.0 x.2) x.0 x.1 in
         let served_ = (first-served (is_own is.b.client is.b.op) t x.0 x.1).0 in
         ap (top_at t run.key) x.3 ∙ (ap (λ (k : List ℕ). top_at t k x.0.step) (sym of.0) ∙ ((served_.applied (sym x.4 ∙ applied)).0 ∙ of.1))
   ]
 
-  low : (run : Run) (w : Writing) (step : ℕ) → IsRun p t run → run.set ≡ Some w → w.is_applied ≡ true → w.step ≤ step → stamp_lt (top_at t run.key step) w.stamp ≡ false
-  low run w step is has applied within = subst (λ (x : Timestamp). stamp_lt (top_at t run.key step) x ≡ false) (applied-update run w is has applied) (at-rises t run.key w.step step within)
+  -- a swap that found what it expects when it was judged
+  applied-trial : (run : Run) (at : ℕ) (stamp found : Timestamp) → (is : IsRun p t run) → run.act ≡ acts.Swap found → run.tried ≡ Some (record { step = at; stamp = stamp; found = found }) → top_at t run.key at ≡ stamp
+  applied-trial run at stamp found is act has = elim (kind p t run is) [
+    | inr w ↦ absurd (none-some (record { step = at; stamp = stamp; found = found }) (sym (ap (λ (y : Run). y.tried) w.run_is) ∙ has))
+    | inl w ↦
+        let trial : Trial = record { step = at; stamp = stamp; found = found } in
+        let c = trial-change p t is.b run.key w.change trial (sym (ap (λ (y : Run). y.tried) w.run_is) ∙ has) in
+        let x = trial-parts t (own_stamp (write_plan p.f p.k is.b.client is.b.op run.key (Some c.value)) (inputs_of is.b.client is.b.op t)) (first_update (is_own is.b.client is.b.op) t) trial c.trial in
+        let j = swap-judged p t trace is.b is.began run.key c.expected c.value (w.action_is ∙ ap (change_action run.key) c.is) x.0 x.1 in
+        let expected : c.expected ≡ found = swap-same (sym (ap (λ (y : Run). y.act) w.run_is ∙ ap change_act c.is) ∙ act) in
+        let applied : x.0.is_applied ≡ true = j.applied ∙ (ap (stamp_eq c.expected) (sym x.4) ∙ (ap (λ (s : Timestamp). stamp_eq s found) expected ∙ stamp_eq-same found)) in
+        let served_ = (first-served (is_own is.b.client is.b.op) t x.0 x.1).0 in
+        ap (top_at t run.key) x.3 ∙ (ap (λ (k : List ℕ). top_at t k x.0.step) (sym j.key_is) ∙ ((served_.applied applied).0 ∙ same_Some x.0.stamp stamp (sym j.own ∙ x.2)))
+  ]
+
+  low : (run : Run) (at : ℕ) (stamp : Timestamp) (step : ℕ) → IsRun p t run → Raises run at stamp → at ≤ step → stamp_lt (top_at t run.key step) stamp ≡ false
+  low run at stamp step is (inl has) within = subst (λ (x : Timestamp). stamp_lt (top_at t run.key step) x ≡ false) (applied-update run (record { step = at; stamp = stamp; is_applied = true }) is has refl) (at-rises t run.key at step within)
+  low run at stamp step is (inr tried) within = subst (λ (x : Timestamp). stamp_lt (top_at t run.key step) x ≡ false) (applied-trial run at stamp tried.0 is tried.1 tried.2) (at-rises t run.key at step within)
+
+  -- a key is not both written and tried
+  apart : (a b : Run) (w : Writing) (r : Trial) → IsRun p t a → IsRun p t b → a.set ≡ Some w → b.tried ≡ Some r → a.key ≡ b.key → ⊥
+  apart a b w r first second has tried keys = elim (kind p t a first) [
+    | inr x ↦ none-some w (sym (ap (λ (y : Run). y.set) x.run_is) ∙ has)
+    | inl x ↦ elim (kind p t b second) [
+      | inr y ↦ none-some r (sym (ap (λ (z : Run). z.tried) y.run_is) ∙ tried)
+      | inl y ↦
+          let c = set-change p t first.b a.key x.change w (sym (ap (λ (z : Run). z.set) x.run_is) ∙ has) in
+          let d = trial-change p t second.b b.key y.change r (sym (ap (λ (z : Run). z.tried) y.run_is) ∙ tried) in
+          let cell : is_cell b.key ≡ true = sym (ap suits (y.action_is ∙ ap (change_action b.key) d.is)) ∙ start-suits p second.b.client second.b.op t second.b.start trace second.began in
+          plain x.change c.0 (sym (ap suits x.action_is) ∙ start-suits p first.b.client first.b.op t first.b.start trace first.began) (ap is_cell keys ∙ cell)
+    ]
+  ]
+    where
+      not-both : (x : Bool) → not x ≡ true → x ≡ true → ⊥
+      not-both true first second = cc
+      not-both false first second = cc
+
+      plain : (change : Change) → change_expected change ≡ None → suits (change_action a.key change) ≡ true → is_cell a.key ≡ true → ⊥
+      plain (Puts v) free fits cell = not-both (is_cell a.key) fits cell
+      plain Deletes free fits cell = not-both (is_cell a.key) fits cell
+      plain (Swaps e v) free fits cell = none-some e (sym free)
 
   from : (key : List ℕ) (step : ℕ) → (top_at t key step ≡ no_stamp) ⊎ IsRaised (IsRun p t) key step (top_at t key step)
   from key step = elim (cases_bool (stamp_lt zero_stamp (top_at t key step))) [
@@ -452,7 +610,6 @@ module _ (p : Params) (t : List Deed) (trace : IsTrace p t) (none : HasNoSwaps t
         let c = a.client in let o = a.op in
         let tried = applied-tried (served t) a found.1 in
         let meant : IsUpdating p c o key a.expected a.rec t = by-means p t a c o key trace (trace-holds p t trace) tried (refl, refl, found.2) in
-        let free : change_expected meant.change ≡ None = no-swap key meant.change (none c o meant.start meant.began) meant.action_is in
         let u = tried-first a t tried in
         let plan = write_plan p.f p.k c o key (change_value meant.change) in
         let own : own_stamp plan (inputs_of c o t) ≡ Some (top_at t key step) = update-own plan (inputs_of c o t) a.rec meant.update ∙ ap Some found.3 in
@@ -460,38 +617,50 @@ module _ (p : Params) (t : List Deed) (trace : IsTrace p t) (none : HasNoSwaps t
         let of = own-update p t trace c o key (top_at t key step) wr u.0 u.1 in
         let applied = first-applied p c o t u.0 trace u.1 (applied-was (served t) a found.1) in
         let served_ = (first-served (is_own c o) t u.0 u.1).0 in
-        inr (raised (begun c o meant.start) meant.began meant.change free meant.action_is u.0 u.1 own applied (elim (cases_lt step u.0.step) [
+        inr (raised (begun c o meant.start) meant.began meant.change meant.action_is u.0 u.1 own applied (elim (cases_lt step u.0.step) [
           | inr within ↦ within
           | inl early ↦ absurd (both_ways (stamp_lt (top_at t key step) (top_at t key step)) (stamp_lt-same (top_at t key step))
               (ap (λ (k : List ℕ). stamp_lt (top_at t k step) (top_at t key step)) (sym of.0) ∙ (ap (stamp_lt (top_at t u.0.key step)) (sym of.1) ∙ (served_.applied applied).1 step early)))
         ]))
   ]
     where
-      raised : (b : Begun) → start_of b.client b.op t ≡ Some b.start → (change : Change) → change_expected change ≡ None → b.start.action ≡ change_action key change → (u : Update) → first_update (is_own b.client b.op) t ≡ Some u
-          → own_stamp (write_plan p.f p.k b.client b.op key (change_value change)) (inputs_of b.client b.op t) ≡ Some (top_at t key step) → u.is_applied ≡ true → u.step ≤ step → IsRaised (IsRun p t) key step (top_at t key step)
-      raised b began (Swaps e v) free action u first own applied within = absurd (none-some e (sym free))
-      raised b began (Puts v) free action u first own applied within = record {
-        run = run_with p t b key acts.Put (first_reading p t b) (own_writing p t b key (Some v));
-        is = record { b = b; began = began; is = ap (run_by p t b) action };
-        key_is = refl;
-        writing = record { step = u.step; stamp = top_at t key step; is_applied = u.is_applied };
-        has = ap (λ (x : Option Timestamp). writing_with x (first_update (is_own b.client b.op) t)) own ∙ ap (writing_with (Some (top_at t key step))) first;
-        applied = applied;
-        within = within;
-        stamp_is = refl;
-      }
-      raised b began Deletes free action u first own applied within = record {
-        run = run_with p t b key acts.Delete (first_reading p t b) (own_writing p t b key None);
-        is = record { b = b; began = began; is = ap (run_by p t b) action };
-        key_is = refl;
-        writing = record { step = u.step; stamp = top_at t key step; is_applied = u.is_applied };
-        has = ap (λ (x : Option Timestamp). writing_with x (first_update (is_own b.client b.op) t)) own ∙ ap (writing_with (Some (top_at t key step))) first;
-        applied = applied;
-        within = within;
-        stamp_is = refl;
-      }
+      written : (b : Begun) (u : Update) → first_update (is_own b.client b.op) t ≡ Some u → u.is_applied ≡ true → (value : Option (List ℕ)) → own_stamp (write_plan p.f p.k b.client b.op key value) (inputs_of b.client b.op t) ≡ Some (top_at t key step)
+          → own_writing p t b key value ≡ Some (record { step = u.step; stamp = top_at t key step; is_applied = true })
+      written b u first applied value own =
+          ap (λ (x : Option Timestamp). writing_with x (first_update (is_own b.client b.op) t)) own ∙ (ap (writing_with (Some (top_at t key step))) first
+          ∙ ap (λ (x : Bool). Some (record { step = u.step; stamp = top_at t key step; is_applied = x })) applied)
 
-  -- the operations of a trace without swaps are runs over the record
+      raised : (b : Begun) → start_of b.client b.op t ≡ Some b.start → (change : Change) → b.start.action ≡ change_action key change → (u : Update) → first_update (is_own b.client b.op) t ≡ Some u
+          → own_stamp (write_plan p.f p.k b.client b.op key (change_value change)) (inputs_of b.client b.op t) ≡ Some (top_at t key step) → u.is_applied ≡ true → u.step ≤ step → IsRaised (IsRun p t) key step (top_at t key step)
+      raised b began (Puts v) action u first own applied within = record {
+        run = change_run p t b key (Puts v);
+        is = record { b = b; began = began; is = ap (run_by p t b) action };
+        key_is = refl;
+        at = u.step;
+        raises = inl (written b u first applied (Some v) own);
+        within = within;
+      }
+      raised b began Deletes action u first own applied within = record {
+        run = change_run p t b key Deletes;
+        is = record { b = b; began = began; is = ap (run_by p t b) action };
+        key_is = refl;
+        at = u.step;
+        raises = inl (written b u first applied None own);
+        within = within;
+      }
+      raised b began (Swaps e v) action u first own applied within =
+          (let j = swap-judged p t trace b began key e v action u first in
+          let met : e ≡ stamp_before t u.key u.step = stamp_eq-true e (stamp_before t u.key u.step) (sym j.applied ∙ applied) in
+          record {
+            run = change_run p t b key (Swaps e v);
+            is = record { b = b; began = began; is = ap (run_by p t b) action };
+            key_is = refl;
+            at = u.step;
+            raises = inr (e, refl, ap (λ (x : Option Timestamp). trial_with t x (first_update (is_own b.client b.op) t)) own ∙ (ap (trial_with t (Some (top_at t key step))) first ∙ ap (λ (x : Timestamp). Some (record { step = u.step; stamp = top_at t key step; found = x })) (sym met)));
+            within = within;
+          })
+
+  -- the operations of a trace are runs over the record
   pub are-runs : AreRuns (top_at t) (IsRun p t)
   are-runs = record {
     numbers = numbers;
@@ -499,6 +668,8 @@ module _ (p : Params) (t : List Deed) (trace : IsTrace p t) (none : HasNoSwaps t
     reads = λ run r is has. reads run r is has;
     sets = λ run w is has. sets run w is has;
     ends = λ run end is has. ends run end is has;
+    tries = λ run r is has. tries run r is has;
+    apart = apart;
     low = low;
     from = from;
   }

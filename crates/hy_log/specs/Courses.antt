@@ -1,8 +1,8 @@
 -- The course of an operation: what has become of it since it began.
-use Rattle.std.specs.Prelude.{◌≡◌, ℕ, Bool, true, false, ◌==◌, ◌&&◌, ◌||◌, List, [], ◌∷◌, Option, Some, None, slice_index_or, is_some, if◌then◌else◌}
+use Rattle.std.specs.Prelude.{◌≡◌, ℕ, ◌+◌, Bool, true, false, ◌==◌, ◌&&◌, ◌||◌, List, [], ◌∷◌, length, Option, Some, None, slice_index_or, is_some, if◌then◌else◌}
 use Rattle.std.specs.Option.{option_map, option_or}
 use Rattle.hy_record.specs.Stamp.{Timestamp, stamp_lt}
-use Rattle.hy_meta.specs.Service.{stamp_of_record}
+use Rattle.hy_meta.specs.Service.{stamp_of_record, record_after}
 use Rattle.hy_protocol.specs.Read.{Version, version_of}
 use Rattle.hy_protocol.specs.Write.{first_has}
 use Rattle.hy_record.specs.Record.{RecordValue}
@@ -51,14 +51,14 @@ noted (Replied at reply) course =
       updated = course.updated;
       is_applied = course.is_applied;
     }
-noted (Updated at is_applied) course =
+noted (Updated at is_applied found) course =
     record {
       returned = course.returned;
       first = course.first;
       first_made = course.first_made;
       version = course.version;
       made = course.made;
-      updated = option_or course.updated (Some (record { at = at; is_applied = is_applied }));
+      updated = option_or course.updated (Some (record { at = at; is_applied = is_applied; found = found }));
       is_applied = is_applied || course.is_applied;
     }
 
@@ -75,7 +75,7 @@ note_of_return at (Some r) = Some (record { client = r.client; op = r.op; news =
 -- what an operation meets where its update is served, at this step
 abbrev pub note_of_update : ℕ → Option updates.Updated → Option Note
 note_of_update at None = None
-note_of_update at (Some u) = Some (record { client = u.client; op = u.op; news = Updated at u.is_applied })
+note_of_update at (Some u) = Some (record { client = u.client; op = u.op; news = Updated at u.is_applied u.found })
 
 -- the course of this operation after a note, which may be of another one
 abbrev pub noted_by : Option Note → ℕ → ℕ → Course → Course
@@ -97,8 +97,14 @@ kept_return r = record { at = r.at; reply = r.reply }
 abbrev pub version_stamp : Version → Timestamp
 version_stamp v = stamp_of_record v.rec
 
-abbrev pub kept_update : Update → FirstUpdate
-kept_update u = record { at = u.step; is_applied = u.is_applied }
+-- the timestamp of the key's record before the deed of the step
+unfoldable pub stamp_before : List Deed → List ℕ → ℕ → Timestamp
+stamp_before [] key step = stamp_of_record None
+stamp_before (d ∷ before) key step =
+    if step == length before + 1 then stamp_of_record (record_after (served before) key) else stamp_before before key step
+
+abbrev pub kept_update : List Deed → Update → FirstUpdate
+kept_update t u = record { at = u.step; is_applied = u.is_applied; found = stamp_before t u.key u.step }
 
 -- where the first answer was made that told the record, after an input that tells this record or none, and was made at this step
 abbrev pub earlier_made : Option (Option RecordValue) → Option (Option RecordValue) → ℕ → ℕ → ℕ
@@ -129,7 +135,7 @@ course_of p t c o =
       first_made = first_made c o t;
       version = option_map version_stamp (version_of (inputs_of c o t));
       made = version_made c o t;
-      updated = option_map kept_update (first_update (is_own c o) t);
+      updated = option_map (kept_update t) (first_update (is_own c o) t);
       is_applied = was_applied (served t) c o;
     }
 

@@ -8,6 +8,7 @@ use Rattle.hy_record.specs.declared.message.MetaSay.{MetaSay}
 use Rattle.hy_record.specs.declared.message.MetaSay.TheVariants as says
 use Rattle.hy_record.specs.declared.turn.Cue.TheVariants as cues
 use Rattle.hy_record.specs.Record.{RecordValue}
+use Rattle.hy_record.specs.Stamp.{Timestamp}
 use Rattle.hy_meta.specs.Service.{Attempt, attempt_of, applies, stamp_of_record, record_after}
 use Rattle.hy_meta.specs.Meta.{service_answers}
 use Rattle.hy_protocol.specs.Inputs.{has_of}
@@ -70,7 +71,13 @@ heard_at Nothing = None
 
 -- an attempt that is served
 abbrev pub updated_as : List MetaAsk → Attempt → Updated
-updated_as before a = record { client = a.client; op = a.op; is_applied = applies (record_after before a.key) a }
+updated_as before a =
+    record {
+      client = a.client;
+      op = a.op;
+      is_applied = applies (record_after before a.key) a;
+      found = stamp_of_record (record_after before a.key);
+    }
 
 -- the answer is that a swap was applied
 abbrev pub is_swapped : MetaSay → Bool
@@ -83,14 +90,26 @@ is_swapped (says.Fired c o k s) = false
 is_swapped (says.OldList c o k ss) = false
 is_swapped (says.Forgot c o k) = false
 
+-- what a swap that expects this timestamp found, by the answer to it
+abbrev pub found_by : Timestamp → MetaSay → Timestamp
+found_by expected (says.Changed c o k s) = s
+found_by expected (says.Swapped c o k s) = expected
+found_by expected (says.Has c o k r) = expected
+found_by expected (says.Applied c o k s) = expected
+found_by expected (says.Kept c o k s) = expected
+found_by expected (says.Fired c o k s) = expected
+found_by expected (says.OldList c o k ss) = expected
+found_by expected (says.Forgot c o k) = expected
+
 -- a swap of this operation that is answered so: one that is judged, or a repeat of it
-abbrev pub answered_swap : ℕ → ℕ → List MetaSay → Option Updated
-answered_swap c o [] = None
-answered_swap c o (say ∷ later) = Some (record { client = c; op = o; is_applied = is_swapped say })
+abbrev pub answered_swap : ℕ → ℕ → Timestamp → List MetaSay → Option Updated
+answered_swap c o expected [] = None
+answered_swap c o expected (say ∷ later) =
+    Some (record { client = c; op = o; is_applied = is_swapped say; found = found_by expected say })
 
 -- the update or swap that the service serves by this request, and answers
 abbrev pub updated_by : MetaAsk → List MetaAsk → Option Updated
-updated_by (asks.Swap c o k expected r) before = answered_swap c o (service_answers before (asks.Swap c o k expected r))
+updated_by (asks.Swap c o k expected r) before = answered_swap c o expected (service_answers before (asks.Swap c o k expected r))
 updated_by (asks.Update c o k r) before = option_map (updated_as before) (attempt_of before (asks.Update c o k r))
 updated_by (asks.Read c o k) before = None
 updated_by (asks.Watch c o k stamp) before = None

@@ -1,5 +1,5 @@
 -- The points of a trace: the moments that decide the orders of its operations.
-use Rattle.std.specs.Prelude.{◌≡◌, ℕ, ◌+◌, false, List, [], ◌∷◌, ◌++◌, length, map, reverse, Option, Some, None}
+use Rattle.std.specs.Prelude.{ℕ, ◌+◌, List, [], ◌∷◌, ◌++◌, length, map, reverse, Option, Some, None}
 use Rattle.std.specs.declared.cmp.Ordering.{Ordering}
 use Rattle.std.specs.List.{filter_map}
 use Rattle.std.specs.Option.{option_and_then, option_map}
@@ -16,8 +16,7 @@ use Rattle.hy_points.specs.declared.point.ActKind.TheVariants as acts
 use Rattle.hy_points.specs.declared.point.Point.{Point}
 use Rattle.hy_points.specs.declared.point.Point.TheVariants as points
 use Rattle.hy_points.specs.Marks.{sorted_by}
-use Rattle.hy_points.specs.Stamps.{is_swap}
-use Rattle.hy_trace.specs.Deeds.{Params, Deed, Start, inputs_of, start_of}
+use Rattle.hy_trace.specs.Deeds.{Params, Deed, inputs_of}
 use Rattle.hy_trace.specs.History.{Return, return_of, Begun, begun_of}
 use Rattle.hy_trace.specs.Points.{Update, first_update, is_own, version_made}
 use Rattle.hy_log.specs.declared.course.Course.{Course}
@@ -25,7 +24,7 @@ use Rattle.hy_log.specs.declared.course.FirstUpdate.{FirstUpdate}
 use Rattle.hy_log.specs.declared.course.Returned.{Returned}
 use Rattle.hy_log.specs.declared.log.Started.{Started}
 use Rattle.hy_log.specs.declared.moment.Moment.{Moment}
-use Rattle.hy_log.specs.Courses.{course_at, first_made, version_stamp}
+use Rattle.hy_log.specs.Courses.{course_at, first_made, version_stamp, stamp_before}
 
 -- a point at a step
 abbrev pub moment : ℕ → Point → Moment
@@ -42,19 +41,15 @@ those_told moments = filter_map (λ (m : Option Moment). m) moments
 abbrev pub step_cmp : Moment → Moment → Ordering
 step_cmp a b = nat_cmp a.step b.step
 
--- what a put, a get or a delete does to the register of its key, and the key
+-- what a put, a get, a delete or a swap does to the register of its key, and the key
 abbrev pub act_kind : Action → Option (List ℕ × ActKind)
 act_kind (asked.Put key value) = Some (key, acts.Put)
 act_kind (asked.Get key) = Some (key, acts.Get)
 act_kind (asked.Delete key) = Some (key, acts.Delete)
 act_kind (asked.Collect key) = None
-act_kind (asked.Swap key expected value) = None
+act_kind (asked.Swap key expected value) = Some (key, acts.Swap expected)
 
 -- ---- of a trace
-
--- no operation of the trace is a swap
-abbrev pub HasNoSwaps : List Deed → Type 0
-HasNoSwaps t = (c o : ℕ) (start : Start) → start_of c o t ≡ Some start → is_swap start.action ≡ false
 
 -- the reading that gave a write its timestamp
 abbrev pub write_ask : List Deed → ℕ → Begun → Option Moment
@@ -79,6 +74,18 @@ write_set p t number b key value =
     set_with number (own_stamp (write_plan p.f p.k b.client b.op key value) (inputs_of b.client b.op t))
     (first_update (is_own b.client b.op) t)
 
+abbrev pub try_with : List Deed → ℕ → Option Timestamp → Option Update → Option Moment
+try_with t number stamp None = None
+try_with t number None (Some u) = None
+try_with t number (Some stamp) (Some u) =
+    Some (moment u.step (points.Try number stamp (stamp_before t u.key u.step)))
+
+-- the swap of an operation that was judged
+abbrev pub swap_try : Params → List Deed → ℕ → Begun → List ℕ → List ℕ → Option Moment
+swap_try p t number b key value =
+    try_with t number (own_stamp (write_plan p.f p.k b.client b.op key (Some value)) (inputs_of b.client b.op t))
+    (first_update (is_own b.client b.op) t)
+
 -- the return of an operation
 abbrev pub return_end : Params → List Deed → ℕ → Begun → Option Moment
 return_end p t number b = option_map (λ (r : Return). moment r.at (points.End number)) (return_of p b.client b.op t)
@@ -95,9 +102,10 @@ moments_by p t number b (asked.Delete key) =
     begun_with number b key acts.Delete (write_ask t number b) (write_set p t number b key None) (return_end p t number b)
 moments_by p t number b (asked.Get key) = begun_with number b key acts.Get (read_ask t number b) None (return_end p t number b)
 moments_by p t number b (asked.Collect key) = []
-moments_by p t number b (asked.Swap key expected value) = []
+moments_by p t number b (asked.Swap key expected value) =
+    begun_with number b key (acts.Swap expected) (write_ask t number b) (swap_try p t number b key value) (return_end p t number b)
 
--- the moments of an operation; a collection and a swap have none
+-- the moments of an operation; a collection has none
 abbrev pub moments_of : Params → List Deed → Begun → List Moment
 moments_of p t b = moments_by p t (length (begun_of b.start.before) + 1) b b.start.action
 
@@ -105,7 +113,7 @@ abbrev pub all_moments : Params → List Deed → List Begun → List Moment
 all_moments p t [] = []
 all_moments p t (b ∷ ops) = moments_of p t b ++ all_moments p t ops
 
--- the points of the trace's puts, gets and deletes, in the order of their steps
+-- the points of the trace's puts, gets, deletes and swaps, in the order of their steps
 unfoldable pub points_of : Params → List Deed → List Point
 points_of p t = map point_at (sorted_by step_cmp (all_moments p t (reverse (begun_of t))))
 
@@ -121,25 +129,32 @@ abbrev pub ask_moment : ℕ → ActKind → Course → Option Moment
 ask_moment number acts.Get course = ask_at number course.made course.version
 ask_moment number acts.Put course = ask_at number course.first_made course.first
 ask_moment number acts.Delete course = ask_at number course.first_made course.first
-ask_moment number (acts.Swap expected) course = None
+ask_moment number (acts.Swap expected) course = ask_at number course.first_made course.first
 
 abbrev pub set_at : ℕ → Option Timestamp → Option FirstUpdate → Option Moment
 set_at number stamp None = None
 set_at number None (Some u) = None
 set_at number (Some stamp) (Some u) = Some (moment u.at (points.Set number stamp u.is_applied))
 
+abbrev pub try_at : ℕ → Option Timestamp → Option FirstUpdate → Option Moment
+try_at number stamp None = None
+try_at number None (Some u) = None
+try_at number (Some stamp) (Some u) = Some (moment u.at (points.Try number stamp u.found))
+
+-- the next timestamp of the client above the first that it was told
+abbrev pub own_by : ℕ → Option Timestamp → Option Timestamp
+own_by client told = option_and_then (λ first. next_stamp first client) told
+
 abbrev pub set_moment : ℕ → ℕ → ActKind → Course → Option Moment
 set_moment number client acts.Get course = None
-set_moment number client (acts.Swap expected) course = None
-set_moment number client acts.Put course =
-    set_at number (option_and_then (λ first. next_stamp first client) course.first) course.updated
-set_moment number client acts.Delete course =
-    set_at number (option_and_then (λ first. next_stamp first client) course.first) course.updated
+set_moment number client (acts.Swap expected) course = try_at number (own_by client course.first) course.updated
+set_moment number client acts.Put course = set_at number (own_by client course.first) course.updated
+set_moment number client acts.Delete course = set_at number (own_by client course.first) course.updated
 
 abbrev pub end_moment : ℕ → Course → Option Moment
 end_moment number course = option_map (λ (r : Returned). moment r.at (points.End number)) course.returned
 
--- the moments of a put, a get or a delete of this course
+-- the moments of a put, a get, a delete or a swap of this course
 abbrev pub acting_moments : ℕ → Started → List ℕ × ActKind → Course → List Moment
 acting_moments number started named course =
     begin_moment number started named.0 named.1

@@ -12,12 +12,14 @@ pub struct Returned {
     pub reply: Reply,
 }
 
-/// The first update or judged swap of an operation that the service served: the step of that, and
-/// whether it was applied.
+/// The first update or judged swap of an operation that the service served: the step of that,
+/// whether it was applied, and the timestamp of the record of its key just before; (0, 0) where there
+/// was none.
 #[derive(Clone, Copy, Debug)]
 pub struct FirstUpdate {
     pub at: u64,
     pub is_applied: bool,
+    pub found: Stamp,
 }
 
 /// What has become of an operation.
@@ -43,11 +45,22 @@ pub struct Course {
 #[derive(Debug, Drop)]
 pub(crate) enum News {
     /// It was told the record: its timestamp, and the step at which the answer was made.
-    Heard { stamp: Stamp, made: u64 },
+    Heard {
+        stamp: Stamp,
+        made: u64,
+    },
     /// It replied, at this step.
-    Replied { at: u64, reply: Reply },
-    /// The service served its update or judged its swap at this step, and applied it or refused it.
-    Updated { at: u64, is_applied: bool },
+    Replied {
+        at: u64,
+        reply: Reply,
+    },
+    /// The service served its update or judged its swap at this step, and applied it or refused it;
+    /// the record of its key had this timestamp before.
+    Updated {
+        at: u64,
+        is_applied: bool,
+        found: Stamp,
+    },
 }
 
 impl Course {
@@ -73,7 +86,11 @@ impl Course {
         match news {
             News::Heard { stamp, made } => self.hear(stamp, made),
             News::Replied { at, reply } => self.returned = Some(Returned { at, reply }),
-            News::Updated { at, is_applied } => self.update(at, is_applied),
+            News::Updated {
+                at,
+                is_applied,
+                found,
+            } => self.update(at, is_applied, found),
         }
     }
 
@@ -92,11 +109,15 @@ impl Course {
     }
 
     /// Notes that its update was served.
-    fn update(&mut self, at: u64, is_applied: bool)
-        ensures { self.new ≡ noted (News.Updated at is_applied) self.old }
+    fn update(&mut self, at: u64, is_applied: bool, found: Stamp)
+        ensures { self.new ≡ noted (News.Updated at is_applied found) self.old }
     {
         if self.updated.is_none() {
-            self.updated = Some(FirstUpdate { at, is_applied });
+            self.updated = Some(FirstUpdate {
+                at,
+                is_applied,
+                found,
+            });
         }
         self.is_applied = is_applied || self.is_applied;
     }

@@ -33,12 +33,14 @@ pub struct Heard {
 }
 
 /// The service served an operation's update or answered its swap, and applied it or refused it: a
-/// repeated swap is answered as it was judged.
+/// repeated swap is answered as it was judged. `found` is the timestamp that the record of its key
+/// had then; (0, 0) where there was no record.
 #[derive(Clone, Copy, Debug)]
 pub struct Updated {
     pub client: u32,
     pub op: u32,
     pub is_applied: bool,
+    pub found: Stamp,
 }
 
 /// What a deed leads to: messages in the order in which they are sent, and what the report of a run

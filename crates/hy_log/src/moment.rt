@@ -7,7 +7,10 @@ ghost use Rattle.hy_log.specs.Points.{
   ask_moment,
   begin_moment,
   end_moment,
+  own_by,
+  set_at,
   set_moment,
+  try_at,
 };
 
 use crate::course::{Course, FirstUpdate};
@@ -22,7 +25,7 @@ pub(crate) struct Moment {
     pub(crate) point: Point,
 }
 
-/// What a put, a get or a delete does to the register of its key, and the key.
+/// What a put, a get, a delete or a swap does to the register of its key, and the key.
 pub(crate) fn act_kind(action: &Action) -> Option<(Key, ActKind)>
     ensures { result ≡ act_kind action.now }
 {
@@ -30,7 +33,8 @@ pub(crate) fn act_kind(action: &Action) -> Option<(Key, ActKind)>
         Action::Put { key, .. } => Some((*key, ActKind::Put)),
         Action::Get { key } => Some((*key, ActKind::Get)),
         Action::Delete { key } => Some((*key, ActKind::Delete)),
-        Action::Collect { .. } | Action::Swap { .. } => None,
+        Action::Swap { key, expected, .. } => Some((*key, ActKind::Swap(*expected))),
+        Action::Collect { .. } => None,
     }
 }
 
@@ -50,14 +54,15 @@ pub(crate) fn begin_moment(op: u32, started: &Started, key: Key, act: ActKind) -
     }
 }
 
-/// The reading that gave a get its version, and a write its timestamp.
+/// The reading that gave a get its version, a write its timestamp, and a swap its first answer.
 pub(crate) fn ask_moment(op: u32, act: &ActKind, course: &Course) -> Option<Moment>
     ensures { result ≡ ask_moment op act.now course.now }
 {
     match act {
         ActKind::Get => ask_at(op, course.made, course.version),
-        ActKind::Put | ActKind::Delete => ask_at(op, course.first_made, course.first),
-        ActKind::Swap(_) => None,
+        ActKind::Put | ActKind::Delete | ActKind::Swap(_) => {
+            ask_at(op, course.first_made, course.first)
+        }
     }
 }
 
@@ -72,25 +77,51 @@ fn ask_at(op: u32, step: u64, found: Option<Stamp>) -> Option<Moment>
     })
 }
 
-/// The first update of a write that was served.
+/// The first update of a write that was served, or the judged swap.
 pub(crate) fn set_moment(op: u32, client: u32, act: &ActKind, course: &Course) -> Option<Moment>
     ensures { result ≡ set_moment op client act.now course.now }
 {
     match act {
-        ActKind::Get | ActKind::Swap(_) => None,
-        ActKind::Put | ActKind::Delete => {
-            let FirstUpdate { at, is_applied } = course.updated?;
-            let stamp = course.first?.after(client)?;
-            Some(Moment {
-                step: at,
-                point: Point::Set {
-                    op,
-                    stamp,
-                    applied: is_applied,
-                },
-            })
-        }
+        ActKind::Get => None,
+        ActKind::Put | ActKind::Delete => set_at(op, own_stamp(client, course), course.updated),
+        ActKind::Swap(_) => try_at(op, own_stamp(client, course), course.updated),
     }
+}
+
+/// The timestamp that an operation writes: the next of its client above the first that it was told.
+fn own_stamp(client: u32, course: &Course) -> Option<Stamp>
+    ensures { result ≡ own_by client course.now.first }
+{
+    let first = course.first?;
+    first.after(client)
+}
+
+/// The update of a write that was served.
+fn set_at(op: u32, stamp: Option<Stamp>, updated: Option<FirstUpdate>) -> Option<Moment>
+    ensures { result ≡ set_at op stamp updated }
+{
+    let FirstUpdate { at, is_applied, .. } = updated?;
+    let stamp = stamp?;
+    Some(Moment {
+        step: at,
+        point: Point::Set {
+            op,
+            stamp,
+            applied: is_applied,
+        },
+    })
+}
+
+/// The swap that was judged.
+fn try_at(op: u32, stamp: Option<Stamp>, updated: Option<FirstUpdate>) -> Option<Moment>
+    ensures { result ≡ try_at op stamp updated }
+{
+    let FirstUpdate { at, found, .. } = updated?;
+    let stamp = stamp?;
+    Some(Moment {
+        step: at,
+        point: Point::Try { op, stamp, found },
+    })
 }
 
 /// Its return.

@@ -45,7 +45,12 @@ pub(crate) fn note_of_update(at: u64, updated: Option<Updated>) -> Option<Note>
         client,
         op,
         is_applied,
+        found,
     } = updated?;
-    let news = News::Updated { at, is_applied };
+    let news = News::Updated {
+        at,
+        is_applied,
+        found,
+    };
     Some(Note { client, op, news })
 }

@@ -12,7 +12,6 @@ ghost use Rattle.hy_log.specs.Points.{
   moments_from,
   operation_moments,
   acting_moments,
-  HasNoSwaps,
   point_at,
   points_of,
   step_cmp,
@@ -28,8 +27,8 @@ use hy_record::Key;
 use std::alloc::Global;
 
 impl Log {
-    /// The points of the puts, gets and deletes, in the order of their steps. Where no operation of
-    /// the run is a swap, the orders by them are those of the run's report.
+    /// The points of the puts, gets, deletes and swaps, in the order of their steps: an atomic log in
+    /// which no operation reads twice, by which the orders are those of the run's report.
     ///
     /// It takes time n log n in the operations. More than 4,294,967,295 of them are refused as want of
     /// memory.
@@ -37,11 +36,11 @@ impl Log {
         ensures points { IfOk result (λ points. (p : TraceParams) (t : List Deed) →
             IsTrace p t → Keeps self.now p t → points ≡ points_of p t) }
         ensures atomic { IfOk result (λ points. (p : TraceParams) (t : List Deed) →
-            IsTrace p t → HasNoSwaps t → Keeps self.now p t → IsAtomicLog points) }
+            IsTrace p t → Keeps self.now p t → IsAtomicLog points) }
         ensures once { IfOk result (λ points. (p : TraceParams) (t : List Deed) →
-            IsTrace p t → HasNoSwaps t → Keeps self.now p t → AsksOnce points) }
+            IsTrace p t → Keeps self.now p t → AsksOnce points) }
         ensures order { IfOk result (λ points. (p : TraceParams) (t : List Deed) →
-            IsTrace p t → HasNoSwaps t → Keeps self.now p t → OrdersRun p t points) }
+            IsTrace p t → Keeps self.now p t → OrdersRun p t points) }
     {
         let moments = self.moments(alloc)?;
         let sorted = in_order(moments)?;
@@ -86,7 +85,7 @@ impl Log {
     }
 }
 
-/// The moments of a put, a get or a delete of this course.
+/// The moments of a put, a get, a delete or a swap of this course.
 fn acting_moments(
     alloc: Global,
     number: u32,

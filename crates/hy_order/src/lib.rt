@@ -1,4 +1,18 @@
-//! Histories of operations, their orders, and the report that tells both.
+//! Histories of operations, their orders, the checker of orders, and the report that tells both.
+//!
+//!     let verdict = check(alloc, &history, &order)?;
+//!
+//! Definitions: `specs/History.antt`, `specs/Linearization.antt`, and the text of a report in `specs/Report.antt`.
+//!
+//! Proved: the checker answers the first violation of an order in a fixed sequence, and Legal exactly where the
+//! order is a linearization (`checker/checking.rt`, `check`: `verdict`, `legal`; `laws.rt`,
+//! `legal_exactly_for_linearizations`). A report is written exactly as its text is defined (`text/writing.rt`,
+//! `write_report`), and read exactly where the text is that of one in the ranges of `docs/FORMATS.md`, else the
+//! first bad line and its cause is answered (`text/reading.rt`, `read_report`: `found`, `only`, `refused`,
+//! `exact`); a report in these ranges is read back from its text (`reports_are_read_back`). The first illegal
+//! order of a report is found, and there is none exactly where each order is a linearization; where the report
+//! is in these ranges, that is exactly where it is linearizable (`first_illegal`: `found`, `legal`,
+//! `linearizable`).
 #![tactic(auto)]
 
 mod checker;

@@ -1,5 +1,5 @@
 -- Marks that stand by their moments stand by their timestamps.
-use Rattle.std.proofs.Common.{◌≡◌, ℕ, ◌+◌, ◌<◌, ◌≤◌, Bool, true, false, cond, List, [], ◌∷◌, refl, sym, ap, subst, ◌∙◌, inl, inr, arith}
+use Rattle.std.proofs.Common.{◌≡◌, ℕ, ◌+◌, ◌<◌, ◌≤◌, Bool, true, false, cond, List, [], ◌∷◌, Option, refl, sym, ap, subst, ◌∙◌, inl, inr, arith}
 use Rattle.std.specs.Prelude.{nat_lt, ◌==◌}
 use Rattle.std.specs.Cmp.{nat_cmp_total, bool_cmp_total}
 use Rattle.std.specs.List.{AllByRecursion}
@@ -83,14 +83,14 @@ reads_of m = m.reads
 abbrev pub place_of : Mark → ℕ
 place_of m = m.place
 
-module _ (own : ℕ → Bool) (log : List Point) where
+module _ (pick : Point → Option Timestamp) (log : List Point) where
   -- at its place a mark's timestamp is not above the record behind it
-  reached : (x : Mark) → IsPlaced own log x → Le x.stamp (height own log (x.place + 1))
+  pub reached : (x : Mark) → IsPlaced pick log x → Le x.stamp (height pick log (x.place + 1))
   reached x placed = by_side x.is_at refl
     where
-      by_side : (b : Bool) → x.is_at ≡ b → Le x.stamp (height own log (x.place + 1))
+      by_side : (b : Bool) → x.is_at ≡ b → Le x.stamp (height pick log (x.place + 1))
       by_side true is = subst (λ t. Le x.stamp t) (sym (placed.here is)) (le-same x.stamp)
-      by_side false is = stamp_lt-other x.stamp (height own log (x.place + 1)) (placed.past is)
+      by_side false is = stamp_lt-other x.stamp (height pick log (x.place + 1)) (placed.past is)
 
   lower : (x y : Mark) → stamp_lt x.stamp y.stamp ≡ true → MayPrecede stamp_of reads_of place_of x y
   lower x y less = record {
@@ -103,17 +103,17 @@ module _ (own : ℕ → Bool) (log : List Point) where
       never same = both_ways (stamp_lt x.stamp x.stamp) (stamp_lt-same x.stamp) (subst (λ t. stamp_lt x.stamp t ≡ true) (sym same) less)
 
   -- what stands at no later moment may stand in front by timestamp
-  pub may-precede : (x y : Mark) → IsPlaced own log x → IsPlaced own log y → NotAfter x y → MayPrecede stamp_of reads_of place_of x y
+  pub may-precede : (x y : Mark) → IsPlaced pick log x → IsPlaced pick log y → NotAfter x y → MayPrecede stamp_of reads_of place_of x y
   may-precede x y first second order = elim (cases_lt x.place y.place) [
     | inl less ↦ by_kind less y.reads refl
     | inr past ↦ let upto = order.places in at_one (omega (arith, past, upto)) x.is_at refl y.is_at refl
   ]
     where
-      from : x.place < y.place → Le x.stamp (height own log y.place)
-      from less = le-trans x.stamp (height own log (x.place + 1)) (height own log y.place) (reached x first) (height-rises own log (x.place + 1) y.place (omega (arith, less)))
+      from : x.place < y.place → Le x.stamp (height pick log y.place)
+      from less = le-trans x.stamp (height pick log (x.place + 1)) (height pick log y.place) (reached x first) (height-rises pick log (x.place + 1) y.place (omega (arith, less)))
 
       by_kind : x.place < y.place → (r : Bool) → y.reads ≡ r → MayPrecede stamp_of reads_of place_of x y
-      by_kind less false is = lower x y (stamp_le-lt x.stamp (height own log y.place) y.stamp (from less) (second.below is))
+      by_kind less false is = lower x y (stamp_le-lt x.stamp (height pick log y.place) y.stamp (from less) (second.below is))
       by_kind less true is = record {
         stamps = subst (λ t. Le x.stamp t) (second.found is).0 (from less);
         kinds = λ same read. is;
@@ -122,7 +122,7 @@ module _ (own : ℕ → Bool) (log : List Point) where
 
       at_one : x.place ≡ y.place → (a : Bool) → x.is_at ≡ a → (b : Bool) → y.is_at ≡ b → MayPrecede stamp_of reads_of place_of x y
       at_one same true a_is false b_is = absurd (both_ways y.is_at b_is (order.sides same a_is))
-      at_one same false a_is true b_is = lower x y (subst (λ t. stamp_lt x.stamp t ≡ true) (ap (λ n. height own log (n + 1)) same ∙ second.here b_is) (first.past a_is))
+      at_one same false a_is true b_is = lower x y (subst (λ t. stamp_lt x.stamp t ≡ true) (ap (λ n. height pick log (n + 1)) same ∙ second.here b_is) (first.past a_is))
       at_one same false a_is false b_is = record {
         stamps = order.stamps same (a_is ∙ sym b_is);
         kinds = λ e read. absurd (both_ways x.is_at a_is (first.found read).1);
@@ -135,20 +135,20 @@ module _ (own : ℕ → Bool) (log : List Point) where
       }
         where
           equal : x.stamp ≡ y.stamp
-          equal = sym (first.here a_is) ∙ ap (λ n. height own log (n + 1)) same ∙ second.here b_is
+          equal = sym (first.here a_is) ∙ ap (λ n. height pick log (n + 1)) same ∙ second.here b_is
 
           not-write : (r : Bool) → y.reads ≡ r → x.reads ≡ true → y.reads ≡ true
           not-write true is read = is
           not-write false is read =
-              (let below : stamp_lt (height own log y.place) y.stamp ≡ true = second.below is in
-              let here : height own log y.place ≡ y.stamp = ap (height own log) (sym same) ∙ (first.found read).0 ∙ equal in
+              (let below : stamp_lt (height pick log y.place) y.stamp ≡ true = second.below is in
+              let here : height pick log y.place ≡ y.stamp = ap (height pick log) (sym same) ∙ (first.found read).0 ∙ equal in
               absurd (both_ways (stamp_lt y.stamp y.stamp) (stamp_lt-same y.stamp) (subst (λ t. stamp_lt t y.stamp ≡ true) here below)))
 
   -- marks in order by moment are in order by timestamp
-  pub by-moment : (xs : List Mark) → AllByRecursion (IsPlaced own log) xs → AreInOrder moment_cmp xs → AreByStamp stamp_of reads_of place_of xs
+  pub by-moment : (xs : List Mark) → AllByRecursion (IsPlaced pick log) xs → AreInOrder moment_cmp xs → AreByStamp stamp_of reads_of place_of xs
   by-moment [] placed ordered = tt
   by-moment (x ∷ xs) placed ordered = (each xs placed.1 ordered.0, by-moment xs placed.1 ordered.1)
     where
-      each : (ys : List Mark) → AllByRecursion (IsPlaced own log) ys → AllByRecursion (λ y. is_lt (moment_cmp y x) ≡ false) ys → AllByRecursion (MayPrecede stamp_of reads_of place_of x) ys
+      each : (ys : List Mark) → AllByRecursion (IsPlaced pick log) ys → AllByRecursion (λ y. is_lt (moment_cmp y x) ≡ false) ys → AllByRecursion (MayPrecede stamp_of reads_of place_of x) ys
       each [] ps os = tt
       each (y ∷ ys) ps os = (may-precede x y placed.0 ps.0 (not-after x y os.0), each ys ps.1 os.1)

@@ -1,5 +1,5 @@
 -- The order by moments is the order by timestamps, since an atomic log's marks stand alike in both.
-use Rattle.std.proofs.Common.{◌≡◌, ℕ, ◌≤◌, Bool, true, false, cond, List, [], ◌∷◌, map, refl, sym, ap, ◌∙◌, inl, inr, arith}
+use Rattle.std.proofs.Common.{◌≡◌, ℕ, ◌≤◌, Bool, true, false, cond, List, [], ◌∷◌, map, Option, refl, sym, ap, ◌∙◌, inl, inr, arith}
 use Rattle.std.specs.Prelude.{◌⊎◌, nat_lt, ◌==◌}
 use Rattle.std.specs.List.{AllByRecursion}
 use Rattle.std.specs.Ordering.{is_lt, nat_cmp, bool_cmp, ordering_then, ordering_reverse}
@@ -10,8 +10,7 @@ use Rattle.std.proofs.lemmas.Bool.Decides.{nat_tests}
 use Rattle.hy_record.specs.Stamp.{Timestamp, stamp_lt, stamp_cmp}
 use Rattle.hy_points.specs.declared.mark.Mark.{Mark}
 use Rattle.hy_points.specs.declared.point.Point.{Point}
-use Rattle.hy_points.specs.Atomic.{IsAtomicLog, AsksOnce}
-use Rattle.hy_points.specs.Lookups.{is_of_key}
+use Rattle.hy_points.specs.Atomic.{IsAtomicLog, AsksOnce, applied_stamp}
 use Rattle.hy_points.specs.Marks.{insert_by, sorted_by, moment_cmp, stamp_first_cmp, marks_of, op_of, linearization_of, order_by_stamp}
 use Rattle.hy_points.proofs.Sorting.{cases_bool, all-each}
 use Rattle.hy_points.proofs.Moments.{moment_total, stamp_first_total}
@@ -126,11 +125,11 @@ ties-by-moment x y is =
     (both-equal (stamp_cmp x.stamp y.stamp) _ a.0
     (both-equal (bool_cmp x.reads y.reads) _ b.0 d.1)))
 
-module _ (own : ℕ → Bool) (log : List Point) where
+module _ (pick : Point → Option Timestamp) (log : List Point) where
   -- what is not later by moment is not later by timestamp
-  upto-by-stamp : (x y : Mark) → IsPlaced own log x → IsPlaced own log y → is_lt (moment_cmp y x) ≡ false → is_lt (stamp_first_cmp y x) ≡ false
+  upto-by-stamp : (x y : Mark) → IsPlaced pick log x → IsPlaced pick log y → is_lt (moment_cmp y x) ≡ false → is_lt (stamp_first_cmp y x) ≡ false
   upto-by-stamp x y first second is =
-      let may : MayPrecede stamp_of reads_of place_of x y = may-precede own log x y first second (not-after x y is) in
+      let may : MayPrecede stamp_of reads_of place_of x y = may-precede pick log x y first second (not-after x y is) in
       let places = then-lt (nat_cmp y.place x.place) _ is in
       then-upto (stamp_cmp y.stamp x.stamp) _ (stamp-not-lt y.stamp x.stamp may.stamps)
       (λ stamps. then-upto (bool_cmp y.reads x.reads) _ (bool-not-lt y.reads x.reads (λ read. may.kinds (sym (stamp-equal y.stamp x.stamp stamps)) read))
@@ -142,7 +141,7 @@ module _ (own : ℕ → Bool) (log : List Point) where
       let later = then-lt (stamp_cmp y.stamp x.stamp) _ (sides.1 side) in
       (then-lt (bool_cmp y.reads x.reads) _ (later.1 stamps)).1 kinds))))))
 
-  alike : (x y : Mark) → IsPlaced own log x → IsPlaced own log y → AreAlike moment_cmp stamp_first_cmp x y
+  alike : (x y : Mark) → IsPlaced pick log x → IsPlaced pick log y → AreAlike moment_cmp stamp_first_cmp x y
   alike x y first second = elim (cases_bool (is_lt (moment_cmp y x))) [
     | inr upto ↦ upto ∙ sym (upto-by-stamp x y first second upto)
     | inl less ↦ less ∙ sym (below less (cases_bool (is_lt (stamp_first_cmp y x))))
@@ -160,6 +159,6 @@ module _ (own : ℕ → Bool) (log : List Point) where
 pub moments-by-stamp : (log : List Point) → IsAtomicLog log → AsksOnce log → (key : List ℕ) → linearization_of log key ≡ order_by_stamp log key
 unfolding linearization_of order_by_stamp
 moments-by-stamp log atomic once key =
-    let are-placed = all-each (IsMarkOf log key) (IsPlaced (is_of_key log key) log) (marks_of log key) (placed log atomic once key) (are-marks log atomic once key) in
+    let are-placed = all-each (IsMarkOf log key) (IsPlaced (applied_stamp log key) log) (marks_of log key) (placed log atomic once key) (are-marks log atomic once key) in
     ap (map op_of) (sorts-alike moment_cmp stamp_first_cmp (marks_of log key)
-    (pairs-of-all (IsPlaced (is_of_key log key) log) (AreAlike moment_cmp stamp_first_cmp) (alike (is_of_key log key) log) (marks_of log key) are-placed))
+    (pairs-of-all (IsPlaced (applied_stamp log key) log) (AreAlike moment_cmp stamp_first_cmp) (alike (applied_stamp log key) log) (marks_of log key) are-placed))

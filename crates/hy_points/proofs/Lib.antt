@@ -6,6 +6,8 @@ mod Marking
 pub mod Places
 pub mod Heights
 pub mod InOrder
+mod Seeking
+pub mod Swapping
 pub mod Courses
 mod Placing
 pub mod Listing

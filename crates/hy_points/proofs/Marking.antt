@@ -16,7 +16,7 @@ use Rattle.hy_order.specs.Keys.{insert_key, sorted_keys}
 use Rattle.hy_order.proofs.DueKeys.{insert_key-set, sorted_keys-more}
 use Rattle.hy_points.specs.declared.mark.Mark.{Mark}
 use Rattle.hy_points.specs.declared.point.Point.{Point}
-use Rattle.hy_points.specs.declared.point.Point.TheVariants.{Begin, Ask, Set, End}
+use Rattle.hy_points.specs.declared.point.Point.TheVariants.{Begin, Ask, Set, Try, End}
 use Rattle.hy_points.specs.Marks.{operation_mark, point_mark, own_mark, marks_under, marks_of, begun_key, begun_keys, AreGrouped, order_under, order_at, op_of, moment_cmp, sorted_by, linearization_of}
 use Rattle.hy_points.proofs.Raising.{key_eq-bytes}
 use Rattle.std.proofs.lemmas.List.Elements.{filter_map-append}
@@ -34,6 +34,7 @@ of_key key (Some own) = cond (key_eq own.0 key) (Some own.1) None
 own-point : (log : List Point) (key : List ℕ) (point : Point) → point_mark log key point ≡ of_key key (own_mark log point)
 own-point log key (Ask op found) = refl
 own-point log key (Set op stamp applied) = refl
+own-point log key (Try op stamp found) = refl
 own-point log key (End op) = refl
 own-point log key (Begin op client k act) = by_test (key_eq k key) refl
   where

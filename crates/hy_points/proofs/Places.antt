@@ -7,10 +7,11 @@ use Rattle.std.proofs.lemmas.Bool.{eqb-true}
 use Rattle.std.proofs.lemmas.List.{append_assoc, append-nil}
 use Rattle.std.proofs.lemmas.Option.{none-some, same_Some}
 use Rattle.hy_points.specs.declared.point.Point.{Point}
-use Rattle.hy_points.specs.declared.point.Point.TheVariants.{Begin, Ask, Set, End}
+use Rattle.hy_points.specs.declared.point.Point.TheVariants.{Begin, Ask, Set, Try, End}
 use Rattle.hy_points.specs.declared.telling.Asking.{Asking}
 use Rattle.hy_points.specs.declared.telling.Setting.{Setting}
-use Rattle.hy_points.specs.Lookups.{Beginning, first_from, last_from, beginning_at, asking_at, setting_at, ending_at, beginning, asking, last_asking, setting, ending}
+use Rattle.hy_points.specs.declared.telling.Trying.{Trying}
+use Rattle.hy_points.specs.Lookups.{Beginning, first_from, last_from, beginning_at, asking_at, setting_at, trying_at, ending_at, beginning, asking, last_asking, setting, trying, ending}
 use Rattle.hy_points.specs.Atomic.{Continues, AsksAnew}
 use Rattle.hy_points.proofs.Tellings.{first-more, last-more, or-none}
 
@@ -114,6 +115,7 @@ begins op n (Begin o client key act) b is = by_test (o == op) refl is
         )
 begins op n (Ask o found) b is = absurd (none-some b is)
 begins op n (Set o stamp applied) b is = absurd (none-some b is)
+begins op n (Try o stamp found) b is = absurd (none-some b is)
 begins op n (End o) b is = absurd (none-some b is)
 
 pub asks : (op n : ℕ) (point : Point) (a : Asking) → asking_at op n point ≡ Some a → (point ≡ Ask op a.found) × (a.place ≡ n)
@@ -130,6 +132,7 @@ asks op n (Ask o found) a is = by_test (o == op) refl is
         )
         )
 asks op n (Set o stamp applied) a is = absurd (none-some a is)
+asks op n (Try o stamp found) a is = absurd (none-some a is)
 asks op n (End o) a is = absurd (none-some a is)
 
 pub sets : (op n : ℕ) (point : Point) (s : Setting) → setting_at op n point ≡ Some s → (point ≡ Set op s.stamp s.is_applied) × (s.place ≡ n)
@@ -146,12 +149,31 @@ sets op n (Set o stamp applied) s is = by_test (o == op) refl is
           sym (ap (λ (c : Setting). c.place) f),
         )
         )
+sets op n (Try o stamp found) s is = absurd (none-some s is)
 sets op n (End o) s is = absurd (none-some s is)
+
+pub tries : (op n : ℕ) (point : Point) (t : Trying) → trying_at op n point ≡ Some t → (point ≡ Try op t.stamp t.found) × (t.place ≡ n)
+tries op n (Begin o client key act) t is = absurd (none-some t is)
+tries op n (Ask o found) t is = absurd (none-some t is)
+tries op n (Set o stamp applied) t is = absurd (none-some t is)
+tries op n (Try o stamp found) t is = by_test (o == op) refl is
+  where
+    by_test : (x : Bool) → (o == op) ≡ x → cond x (Some (record { place = n; stamp = stamp; found = found })) None ≡ Some t → (Try o stamp found ≡ Try op t.stamp t.found) × (t.place ≡ n)
+    by_test false same e = absurd (none-some t e)
+    by_test true same e = (
+        let own = eqb-true o op same in
+        let f = same_Some (record { place = n; stamp = stamp; found = found }) t e in (
+          ap (λ k. Try k stamp found) own ∙ ap (λ (c : Trying). Try op c.stamp c.found) f,
+          sym (ap (λ (c : Trying). c.place) f),
+        )
+        )
+tries op n (End o) t is = absurd (none-some t is)
 
 pub ends : (op n : ℕ) (point : Point) (e : ℕ) → ending_at op n point ≡ Some e → (point ≡ End op) × (e ≡ n)
 ends op n (Begin o client key act) e is = absurd (none-some e is)
 ends op n (Ask o found) e is = absurd (none-some e is)
 ends op n (Set o stamp applied) e is = absurd (none-some e is)
+ends op n (Try o stamp found) e is = absurd (none-some e is)
 ends op n (End o) e is = by_test (o == op) refl is
   where
     by_test : (x : Bool) → (o == op) ≡ x → cond x (Some n) None ≡ Some e → (End o ≡ End op) × (e ≡ n)
@@ -205,6 +227,14 @@ set-there log op s is =
     let place_ = f.1 in
     ap (slice_get log) (let e : s.place ≡ t.0.place = omega (arith, place_) in e) ∙ t.0.there ∙ ap Some f.0
 
+pub tried-there : (log : List Point) (op : ℕ) (t : Trying) → trying log op ≡ Some t → slice_get log t.place ≡ Some (Try op t.stamp t.found)
+unfolding trying
+tried-there log op tried is =
+    let t = first-at (trying_at op) 0 log tried is in
+    let f = tries op (0 + t.0.place) t.0.point tried t.0.tells in
+    let place_ = f.1 in
+    ap (slice_get log) (let e : tried.place ≡ t.0.place = omega (arith, place_) in e) ∙ t.0.there ∙ ap Some f.0
+
 pub ended-there : (log : List Point) (op e : ℕ) → ending log op ≡ Some e → slice_get log e ≡ Some (End op)
 unfolding ending
 ended-there log op e is =
@@ -222,6 +252,10 @@ pub asked-front : (log : List Point) (n op : ℕ) (a : Asking) → asking (take 
 unfolding asking
 asked-front log n op a is = (first-stays (asking_at op) 0 log n a is, (front-at log n a.place (Ask op a.found) (asked-there (take n log) op a is)).0)
 
+pub tried-front : (log : List Point) (n op : ℕ) (t : Trying) → trying (take n log) op ≡ Some t → (trying log op ≡ Some t) × (t.place < n)
+unfolding trying
+tried-front log n op t is = (first-stays (trying_at op) 0 log n t is, (front-at log n t.place (Try op t.stamp t.found) (tried-there (take n log) op t is)).0)
+
 pub ended-front : (log : List Point) (n op e : ℕ) → ending (take n log) op ≡ Some e → (ending log op ≡ Some e) × (e < n)
 unfolding ending
 ended-front log n op e is = (first-stays (ending_at op) 0 log n e is, (front-at log n e (End op) (ended-there (take n log) op e is)).0)
@@ -234,6 +268,10 @@ front-begun log n op b is less = front-has (beginning_at op) 0 log b n is (λ pl
 pub front-set : (log : List Point) (n op : ℕ) (s : Setting) → setting log op ≡ Some s → s.place < n → setting (take n log) op ≡ Some s
 unfolding setting
 front-set log n op s is less = front-has (setting_at op) 0 log s n is (λ place point told. let same = (sets op place point s told).1 in omega (arith, same, less))
+
+pub front-tried : (log : List Point) (n op : ℕ) (t : Trying) → trying log op ≡ Some t → t.place < n → trying (take n log) op ≡ Some t
+unfolding trying
+front-tried log n op t is less = front-has (trying_at op) 0 log t n is (λ place point told. let same = (tries op place point t told).1 in omega (arith, same, less))
 
 pub front-ended : (log : List Point) (n op e : ℕ) → ending log op ≡ Some e → e < n → ending (take n log) op ≡ Some e
 unfolding ending
@@ -260,6 +298,7 @@ last-first before (point ∷ later) op same anew =
     by_point : (p : Point) → AsksAnew before p → option_or (asking_at op (length before) p) (last_asking before op) ≡ option_or (asking before op) (asking_at op (length before) p)
     by_point (Begin o client key act) one = with_none None refl
     by_point (Set o stamp applied) one = with_none None refl
+    by_point (Try o stamp found) one = with_none None refl
     by_point (End o) one = with_none None refl
     by_point (Ask o found) one = by_test (o == op) refl
       where

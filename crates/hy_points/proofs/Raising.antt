@@ -20,7 +20,7 @@ use Rattle.hy_record.specs.Stamp.{Timestamp, stamp_lt}
 use Rattle.hy_record.proofs.Order.{stamp_lt-trans, stamp_lt-le}
 use Rattle.hy_points.specs.declared.peaks.Peak.{Peak}
 use Rattle.hy_points.specs.declared.point.Point.{Point}
-use Rattle.hy_points.specs.declared.point.Point.TheVariants.{Begin, Ask, Set, End}
+use Rattle.hy_points.specs.declared.point.Point.TheVariants.{Begin, Ask, Set, Try, End}
 use Rattle.hy_points.specs.Lookups.{Beginning, beginning, beginning_at, first_from, is_of_key}
 use Rattle.hy_points.specs.Marks.{overwriting_at}
 use Rattle.hy_points.specs.Index.{AreRising, AreFirsts, first_above, raised, peaks_under, applied_writing, under, key_at}
@@ -189,6 +189,7 @@ keys-begun (Begin o client key act ∷ log) place op = by_test (o == op) (keys-b
     by_test false later = later
 keys-begun (Ask o found ∷ log) place op = keys-begun log (place + 1) op
 keys-begun (Set o stamp applied ∷ log) place op = keys-begun log (place + 1) op
+keys-begun (Try o stamp found ∷ log) place op = keys-begun log (place + 1) op
 keys-begun (End o ∷ log) place op = keys-begun log (place + 1) op
 
 -- an operation is of a key where it began on it
@@ -212,6 +213,7 @@ overwrites-none log entries (Set op s true) keys none key stamp place =
     by_key : (o : Option (List ℕ)) → option_map {U = List ℕ × Timestamp} (λ (key : List ℕ). (key, s)) o ≡ None → cond (option_map_or (λ (k : List ℕ). key_eq k key) o false && stamp_lt stamp s) (Some place) None ≡ None
     by_key None e = refl
     by_key (Some k) e = cc
+overwrites-none log entries (Try op s found) keys none key stamp place = refl
 overwrites-none log entries (End op) keys none key stamp place = refl
 
 -- an applied writing overwrites what is of its key and has a smaller timestamp
@@ -229,6 +231,7 @@ overwrites-one log entries (Set op t true) k s keys one key stamp place =
     by_key (Some q) e =
         (let pair_ : (q, t) ≡ (k, s) = same_Some (q, t) (k, s) e in
         ap (λ (p : List ℕ × Timestamp). cond (key_eq p.0 key && stamp_lt stamp p.1) (Some place) None) pair_)
+overwrites-one log entries (Try op t found) k s keys one key stamp place = cc
 overwrites-one log entries (End op) k s keys one key stamp place = cc
 
 front-more : (log points : List Point) (place : ℕ) (point : Point) (key : List ℕ) (stamp : Timestamp) → place < length points → point ≡ get_or points place point

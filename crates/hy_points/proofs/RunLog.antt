@@ -1,27 +1,29 @@
 -- The points of runs, in the order of their steps, are an atomic log in which no operation reads twice.
 use Rattle.std.proofs.Common.{◌≡◌, ℕ, zero, suc, ◌+◌, ◌-◌, ◌<◌, ◌≤◌, Bool, true, false, List, [], ◌∷◌, ◌++◌, map, take, Option, Some, None, is_some, refl, sym, ap, subst, ◌∙◌, inl, inr, arith}
-use Rattle.std.specs.Prelude.{◌⊎◌}
+use Rattle.std.specs.Prelude.{◌⊎◌, ◌&&◌}
 use Rattle.std.specs.List.{AllByRecursion, slice_get}
 use Rattle.std.specs.Option.{option_map_or}
 use Rattle.std.proofs.lemmas.Bool.{cases_lt}
 use Rattle.std.proofs.lemmas.List.{append_assoc, append-nil}
-use Rattle.std.proofs.lemmas.Option.{none-some, same_Some}
+use Rattle.std.proofs.lemmas.Option.{none-some, same_Some, cond_some}
 use Rattle.hy_record.specs.Key.{key_eq}
-use Rattle.hy_record.specs.Stamp.{Timestamp, stamp_lt, next_stamp}
-use Rattle.hy_record.proofs.Order.{key_eq-true, key_eq-same}
+use Rattle.hy_record.specs.Stamp.{Timestamp, stamp_lt, stamp_eq, next_stamp}
+use Rattle.hy_record.proofs.Order.{key_eq-true, key_eq-same, stamp_eq-same}
 use Rattle.hy_points.specs.declared.point.ActKind.{ActKind}
 use Rattle.hy_points.specs.declared.point.ActKind.TheVariants.{Put, Get, Delete, Swap}
 use Rattle.hy_points.specs.declared.point.Point.{Point}
-use Rattle.hy_points.specs.declared.point.Point.TheVariants.{Begin, Ask, Set, End}
+use Rattle.hy_points.specs.declared.point.Point.TheVariants.{Begin, Ask, Set, Try, End}
 use Rattle.hy_points.specs.declared.telling.Asking.{Asking}
 use Rattle.hy_points.specs.declared.telling.Setting.{Setting}
-use Rattle.hy_points.specs.Lookups.{Beginning, beginning_at, asking_at, setting_at, ending_at, beginning, asking, last_asking, setting, ending, has_ended, is_of_key}
-use Rattle.hy_points.specs.Atomic.{Continues, Fits, FitsBegin, FitsAsk, FitsSet, FitsEnd, IsRunning, MayEnd, IsAtomicLog, AsksAnew, AsksOnce, logged_stamp, writes}
-use Rattle.hy_points.specs.Runs.{Reading, Writing, Run, IsPointOf, MayReturn, AreRuns}
+use Rattle.hy_points.specs.declared.telling.Trying.{Trying}
+use Rattle.hy_points.specs.Lookups.{Beginning, beginning_at, asking_at, setting_at, trying_at, ending_at, beginning, asking, last_asking, setting, trying, ending, has_ended, is_of_key}
+use Rattle.hy_points.specs.Atomic.{Continues, Fits, FitsBegin, FitsAsk, FitsSet, FitsTry, FitsEnd, IsRunning, MayEnd, IsAtomicLog, AsksAnew, AsksOnce, expects, is_met, applied_stamp, logged_stamp, writes}
+use Rattle.hy_points.specs.Runs.{Reading, Writing, Trial, Run, IsPointOf, MayReturn, Raises, AreRuns}
 use Rattle.hy_points.proofs.Listing.{IsIn}
-use Rattle.hy_points.proofs.Places.{first-upto, front-at, at-front, begun-there, asked-there, set-there, ended-there, continues-front, last-first}
+use Rattle.hy_points.proofs.Places.{first-upto, front-at, at-front, begun-there, asked-there, set-there, tried-there, ended-there, continues-front, last-first}
+use Rattle.hy_points.proofs.Swapping.{both-of, expecting}
 use Rattle.hy_points.proofs.Courses.{eqb-same}
-use Rattle.hy_points.proofs.Heights.{Le, none-le, le-both, height_of, above-all, from-one}
+use Rattle.hy_points.proofs.Heights.{Le, none-le, le-both, IsApplied, height_of, above-all, from-one}
 
 -- ---- lists
 
@@ -143,6 +145,11 @@ module _ {M : Type 0} (step : M → ℕ) (point : M → Point) (Is : Run → Typ
         let t = tells-before s.place (Set op s.stamp s.is_applied) (set-there before op s is) in
         (t.0, t.1, sym t.3.0, record { step = t.2; stamp = s.stamp; is_applied = s.is_applied }, t.3.1, t.4)
 
+    tried-is : (op : ℕ) (q : Trying) → trying before op ≡ Some q → (run : Run) × Is run × (run.op ≡ op) × (r : Trial) × (run.tried ≡ Some r) × (r.step < step m)
+    tried-is op q is =
+        let t = tells-before q.place (Try op q.stamp q.found) (tried-there before op q is) in
+        (t.0, t.1, sym t.3.0, record { step = t.2; stamp = q.stamp; found = q.found }, t.3.1, t.4)
+
     ended-is : (op e : ℕ) → ending before op ≡ Some e → (run : Run) × Is run × (run.op ≡ op) × (n : ℕ) × (run.ended ≡ Some n) × (n < step m)
     ended-is op e is =
         let t = tells-before e (End op) (ended-there before op e is) in
@@ -180,6 +187,15 @@ module _ {M : Type 0} (step : M → ℕ) (point : M → Point) (Is : Run → Typ
         let f = first-upto (setting_at run.op) 0 before x.0 q (record { place = 0 + x.0; stamp = w.stamp; is_applied = w.is_applied }) x.1 self in
         (f.0, f.1)
 
+    tried-before : (run : Run) (r : Trial) → Is run → run.tried ≡ Some r → r.step < step m → (q : Trying) × (trying before run.op ≡ Some q)
+    unfolding trying
+    tried-before run r is has less =
+        let q = Try run.op r.stamp r.found in
+        let x = has-before run r.step q is (refl, has) less in
+        let self : trying_at run.op (0 + x.0) q ≡ Some (record { place = 0 + x.0; stamp = r.stamp; found = r.found }) = rw (eqb-same run.op) refl in
+        let f = first-upto (trying_at run.op) 0 before x.0 q (record { place = 0 + x.0; stamp = r.stamp; found = r.found }) x.1 self in
+        (f.0, f.1)
+
     ended-before : (run : Run) (n : ℕ) → Is run → run.ended ≡ Some n → n < step m → has_ended before run.op ≡ true
     unfolding ending
     ended-before run n is has less =
@@ -210,39 +226,92 @@ module _ {M : Type 0} (step : M → ℕ) (point : M → Point) (Is : Run → Typ
         by_begun None e f = cc
         by_begun (Some b) e f = (b, e, key_eq-true b.key key f)
 
-    -- the record is the greatest of the applied writings before
+    -- the run of an operation of the key that began before
+    own-run : (key : List ℕ) (op : ℕ) → is_of_key before key op ≡ true → (run : Run) → Is run → run.op ≡ op → (b : Beginning) × (beginning before op ≡ Some b) × (run.key ≡ key) × (b.act ≡ run.act)
+    own-run key op own run is op_is =
+        let b = own-key key op own in
+        let k = begun-is op b.0 b.1 in
+        let same : k.0 ≡ run = runs.numbers k.0 run k.1 is (k.2 ∙ sym op_is) in
+        (b.0, b.1, ap (λ (r : Run). r.key) (sym same) ∙ (sym k.4 ∙ b.2), k.5 ∙ ap (λ (r : Run). r.act) same)
+
+    -- what is applied before was made by a run of the key
+    applied-raises : (key : List ℕ) (place : ℕ) (stamp : Timestamp) → IsApplied (applied_stamp before key) before place stamp → (run : Run) × Is run × (run.key ≡ key) × (n : ℕ) × Raises run n stamp × (n < step m)
+    applied-raises key place stamp a = by_point a.point a.there a.picks
+      where
+        by_point : (q : Point) → slice_get before place ≡ Some q → applied_stamp before key q ≡ Some stamp → (run : Run) × Is run × (run.key ≡ key) × (n : ℕ) × Raises run n stamp × (n < step m)
+        by_point (Begin op client k act) there picks = absurd (none-some stamp picks)
+        by_point (Ask op found) there picks = absurd (none-some stamp picks)
+        by_point (End op) there picks = absurd (none-some stamp picks)
+        by_point (Set op s false) there picks = absurd (none-some stamp picks)
+        by_point (Set op s true) there picks =
+            (let c = cond_some (is_of_key before key op) s stamp picks in
+            let t = tells-before place (Set op s true) there in
+            let r = own-run key op c.0 t.0 t.1 (sym t.3.0) in
+            (t.0, t.1, r.2, t.2, inl (t.3.1 ∙ ap (λ (x : Timestamp). Some (record { step = t.2; stamp = x; is_applied = true })) c.1), t.4))
+        by_point (Try op s found) there picks =
+            (let c = cond_some (is_met before op found && is_of_key before key op) s stamp picks in
+            let g = both-of (is_met before op found) (is_of_key before key op) c.0 in
+            let t = tells-before place (Try op s found) there in
+            let r = own-run key op g.1 t.0 t.1 (sym t.3.0) in
+            let act : r.0.act ≡ Swap found = expecting r.0.act found (sym (ap (λ (o : Option Beginning). option_map_or (λ (x : Beginning). expects x.act found) o false) r.1) ∙ g.0) in
+            (t.0, t.1, r.2, t.2, inr (found, sym r.3 ∙ act, t.3.1 ∙ ap (λ (x : Timestamp). Some (record { step = t.2; stamp = x; found = found })) c.1), t.4))
+
+    -- what made the record before is applied there
+    raises-begun : (run : Run) → Is run → (n : ℕ) (stamp : Timestamp) → Raises run n stamp → run.begun < n
+    raises-begun run is n stamp (inl set) =
+        let w = runs.sets run (record { step = n; stamp = stamp; is_applied = true }) is set in
+        let r = runs.reads run w.reading is w.asked in
+        let begun = r.begun in let behind = r.set (record { step = n; stamp = stamp; is_applied = true }) set in
+        omega (arith, begun, behind)
+    raises-begun run is n stamp (inr tried) =
+        let t = runs.tries run (record { step = n; stamp = stamp; found = tried.0 }) is tried.2 in
+        let r = runs.reads run t.reading is t.asked in
+        let begun = r.begun in let behind = r.tried (record { step = n; stamp = stamp; found = tried.0 }) tried.2 in
+        omega (arith, begun, behind)
+
+    raises-there : (key : List ℕ) (run : Run) → Is run → run.key ≡ key → (n : ℕ) (stamp : Timestamp) → n < step m → Raises run n stamp → (place : ℕ) × IsApplied (applied_stamp before key) before place stamp
+    raises-there key run is of n stamp less raises = by_raises raises
+      where
+        after_ : run.begun < n
+        after_ = raises-begun run is n stamp raises
+
+        b : (b : Beginning) × (beginning before run.op ≡ Some b) × (b.client ≡ run.client) × (b.key ≡ run.key) × (b.act ≡ run.act)
+        b = begun-before run is (let e = after_ in omega (arith, e, less))
+
+        own : is_of_key before key run.op ≡ true
+        own = ap (λ (o : Option Beginning). option_map_or (λ (b : Beginning). key_eq b.key key) o false) b.1 ∙ (ap (λ (k : List ℕ). key_eq k key) (b.3 ∙ of) ∙ key_eq-same key)
+
+        by_raises : Raises run n stamp → (place : ℕ) × IsApplied (applied_stamp before key) before place stamp
+        by_raises (inl set) =
+            (let there = has-before run n (Set run.op stamp true) is (refl, set) less in
+            (there.0, record { point = Set run.op stamp true; there = there.1; picks = rw own refl }))
+        by_raises (inr tried) =
+            (let there = has-before run n (Try run.op stamp tried.0) is (refl, tried.2) less in
+            let meets : is_met before run.op tried.0 ≡ true = ap (λ (o : Option Beginning). option_map_or (λ (x : Beginning). expects x.act tried.0) o false) b.1 ∙ (ap (λ (act : ActKind). expects act tried.0) (b.4 ∙ tried.1) ∙ stamp_eq-same tried.0) in
+            (there.0, record { point = Try run.op stamp tried.0; there = there.1; picks = rw (meets, own) refl }))
+
+    -- the record is the greatest that was made before
     logged : (key : List ℕ) (n : ℕ) → n + 1 ≡ step m → logged_stamp before key ≡ record_at key n
     unfolding logged_stamp
-    logged key n now = le-both (height_of (is_of_key before key) before) (record_at key n) upto from
+    logged key n now = le-both (height_of (applied_stamp before key) before) (record_at key n) upto from
       where
-        upto : Le (height_of (is_of_key before key) before) (record_at key n)
-        upto = elim (from-one (is_of_key before key) before) [
+        upto : Le (height_of (applied_stamp before key) before) (record_at key n)
+        upto = elim (from-one (applied_stamp before key) before) [
           | inl none ↦ subst (λ (t : Timestamp). Le t (record_at key n)) (sym none) (none-le (record_at key n))
           | inr one ↦
-              let t = tells-before one.0 (Set one.1.op (height_of (is_of_key before key) before) true) one.1.there in
-              let b = own-key key one.1.op one.1.is_own in
-              let k = begun-is one.1.op b.0 b.1 in
-              let same : k.0 ≡ t.0 = runs.numbers k.0 t.0 k.1 t.1 (k.2 ∙ t.3.0) in
-              let of_key : t.0.key ≡ key = ap (λ (r : Run). r.key) (sym same) ∙ (sym k.4 ∙ b.2) in
-              let less = t.4 in
-              subst (λ (x : List ℕ). Le (height_of (is_of_key before key) before) (record_at x n)) of_key
-              (runs.low t.0 (record { step = t.2; stamp = height_of (is_of_key before key) before; is_applied = true }) n t.1 t.3.1 refl (omega (arith, less, now)))
+              let t = applied-raises key one.0 (height_of (applied_stamp before key) before) one.1 in
+              let less = t.5 in
+              subst (λ (x : List ℕ). Le (height_of (applied_stamp before key) before) (record_at x n)) t.2
+              (runs.low t.0 t.3 (height_of (applied_stamp before key) before) n t.1 t.4 (omega (arith, less, now)))
         ]
 
-        from : Le (record_at key n) (height_of (is_of_key before key) before)
+        from : Le (record_at key n) (height_of (applied_stamp before key) before)
         from = elim (runs.from key n) [
-          | inl none ↦ subst (λ (t : Timestamp). Le t (height_of (is_of_key before key) before)) (sym none) (none-le (height_of (is_of_key before key) before))
+          | inl none ↦ subst (λ (t : Timestamp). Le t (height_of (applied_stamp before key) before)) (sym none) (none-le (height_of (applied_stamp before key) before))
           | inr raised ↦
-              let w = raised.writing in
               let within = raised.within in
-              let sets = runs.sets raised.run w raised.is raised.has in
-              let reads = runs.reads raised.run sets.reading raised.is sets.asked in
-              let begun = reads.begun in let behind = reads.set w raised.has in
-              let there = has-before raised.run w.step (Set raised.run.op w.stamp true) raised.is (refl, raised.has ∙ ap (λ (b : Bool). Some (record { step = w.step; stamp = w.stamp; is_applied = b })) raised.applied) (omega (arith, within, now)) in
-              let b = begun-before raised.run raised.is (omega (arith, within, now, begun, behind)) in
-              let own : is_of_key before key raised.run.op ≡ true = ap (λ (o : Option Beginning). option_map_or (λ (b : Beginning). key_eq b.key key) o false) b.1 ∙ (ap (λ (k : List ℕ). key_eq k key) (b.3 ∙ raised.key_is) ∙ key_eq-same key) in
-              subst (λ (t : Timestamp). Le t (height_of (is_of_key before key) before)) raised.stamp_is
-              (above-all (is_of_key before key) before there.0 w.stamp (record { op = raised.run.op; there = there.1; is_own = own }))
+              let there = raises-there key raised.run raised.is raised.key_is raised.at (record_at key n) (omega (arith, within, now)) raised.raises in
+              above-all (applied_stamp before key) before there.0 (record_at key n) there.1
         ]
 
     begin-fits : (run : Run) → Is run → run.begun ≡ step m → (client : ℕ) → client ≡ run.client → FitsBegin before run.op client
@@ -274,6 +343,12 @@ module _ {M : Type 0} (step : M → ℕ) (point : M → Point) (Is : Run → Typ
               let late = r.set t.3 (sym (ap (λ (x : Run). x.set) same) ∙ t.4) in
               let soon = t.5 in
               omega (arith, late, soon)));
+          not_tried = none-is (trying before run.op) (λ s there. (
+              let t = tried-is run.op s there in
+              let same : t.0 ≡ run = runs.numbers t.0 run t.1 is t.2 in
+              let late = r.tried t.3 (sym (ap (λ (x : Run). x.tried) same) ∙ t.4) in
+              let soon = t.5 in
+              omega (arith, late, soon)));
         }
 
     ask-anew : (run : Run) (found : Timestamp) → Is run → run.asked ≡ Some (record { step = step m; found = found }) → asking before run.op ≡ None
@@ -300,6 +375,7 @@ module _ {M : Type 0} (step : M → ℕ) (point : M → Point) (Is : Run → Typ
       by_point i m here run is (Begin op client key act) of = tt
       by_point i m here run is (Ask op found) of = subst (λ (o : ℕ). asking (take i log) o ≡ None) (sym of.0) (ask-anew i m here run found is of.1)
       by_point i m here run is (Set op stamp applied) of = tt
+      by_point i m here run is (Try op stamp found) of = tt
       by_point i m here run is (End op) of = tt
 
   -- the last reading before a place is the first one
@@ -330,6 +406,40 @@ module _ {M : Type 0} (step : M → ℕ) (point : M → Point) (Is : Run → Typ
           asked = last-asked i run.op ∙ a.1;
           next = ap (λ (t : Timestamp). next_stamp t b.0.client) a.2 ∙ (ap (next_stamp w.reading.found) b.2 ∙ w.next);
           applies = w.applies (step m - 1) (omega (arith, begun, behind)) ∙ sym (ap (λ (t : Timestamp). stamp_lt t stamp) (ap (logged_stamp (take i log)) b.3 ∙ logged i m here run.key (step m - 1) (omega (arith, begun, behind))));
+          none_tried = λ op own. none-is (trying (take i log) op) (λ q there. (
+              let t = tried-is i m here op q there in
+              let o = own-run i m here b.0.key op own t.0 t.1 t.2 in
+              runs.apart run t.0 (record { step = step m; stamp = stamp; is_applied = applied }) t.3 is t.1 has t.4 (sym (o.2 ∙ b.3))));
+        }
+
+    try-fits : (run : Run) (stamp found : Timestamp) → Is run → run.tried ≡ Some (record { step = step m; stamp = stamp; found = found }) → FitsTry (take i log) run.op stamp found
+    try-fits run stamp found is has =
+        let w = runs.tries run (record { step = step m; stamp = stamp; found = found }) is has in
+        let r = runs.reads run w.reading is w.asked in
+        let begun = r.begun in
+        let behind = r.tried (record { step = step m; stamp = stamp; found = found }) has in
+        let b = begun-before i m here run is (omega (arith, begun, behind)) in
+        let a = asked-before i m here run w.reading is w.asked behind in
+        record {
+          runs = is-running i m here run is b.0 b.1 (λ n ended. (let less = w.ended n ended in omega (arith, less)));
+          expected = w.expected;
+          is_swap = b.4 ∙ w.is_swap;
+          not_tried = none-is (trying (take i log) run.op) (λ s there. (
+              let t = tried-is i m here run.op s there in
+              let same : t.0 ≡ run = runs.numbers t.0 run t.1 is t.2 in
+              let one : t.3 ≡ record { step = step m; stamp = stamp; found = found } = same_Some t.3 (record { step = step m; stamp = stamp; found = found }) (sym t.4 ∙ ap (λ (x : Run). x.tried) same ∙ has) in
+              let at = ap (λ (x : Trial). x.step) one in
+              let soon = t.5 in
+              omega (arith, at, soon)));
+          ask = a.0;
+          asked = last-asked i run.op ∙ a.1;
+          as_expected = a.2 ∙ w.as_expected;
+          next = ap (next_stamp w.expected) b.2 ∙ w.next;
+          finds = w.finds (step m - 1) (omega (arith, begun, behind)) ∙ sym (ap (logged_stamp (take i log)) b.3 ∙ logged i m here run.key (step m - 1) (omega (arith, begun, behind)));
+          none_set = λ op own. none-is (setting (take i log) op) (λ q there. (
+              let t = set-is i m here op q there in
+              let o = own-run i m here b.0.key op own t.0 t.1 t.2 in
+              runs.apart t.0 run t.3 (record { step = step m; stamp = stamp; found = found }) t.1 is t.4 has (o.2 ∙ b.3)));
         }
 
     end-fits : (run : Run) → Is run → run.ended ≡ Some (step m) → FitsEnd (take i log) run.op
@@ -353,12 +463,23 @@ module _ {M : Type 0} (step : M → ℕ) (point : M → Point) (Is : Run → Typ
         may Get client of returns = (let a = asked-may returns.0 returns.1 in (a.0, a.1))
         may Put client of returns = write-may client of returns
         may Delete client of returns = write-may client of returns
-        may (Swap expected) client of returns = returns
+        may (Swap expected) client of (inl t) = inl (tried-before i m here run t.0 is t.1 ((runs.tries run t.0 is t.1).ended (step m) has))
+        may (Swap expected) client of (inr r) =
+            (let a = asked-may r.0 r.1 in
+            inr (
+              a.0,
+              last-asked i run.op ∙ a.1,
+              elim r.2 [
+                | inl other ↦ inl (ap (stamp_eq expected) a.2 ∙ other)
+                | inr none ↦ inr (ap (λ (t : Timestamp). next_stamp t client) a.2 ∙ (ap (next_stamp r.0.found) of ∙ none))
+              ],
+            ))
 
     point-fits : (run : Run) → Is run → (q : Point) → IsPointOf run (step m) q → Fits (take i log) q
     point-fits run is (Begin op client key act) of = subst (λ (o : ℕ). FitsBegin (take i log) o client) (sym of.0) (begin-fits i m here run is (sym of.4) client of.1)
     point-fits run is (Ask op found) of = subst (λ (o : ℕ). FitsAsk (take i log) o found) (sym of.0) (ask-fits i m here run found is of.1)
     point-fits run is (Set op stamp applied) of = subst (λ (o : ℕ). FitsSet (take i log) o stamp applied) (sym of.0) (set-fits run stamp applied is of.1)
+    point-fits run is (Try op stamp found) of = subst (λ (o : ℕ). FitsTry (take i log) o stamp found) (sym of.0) (try-fits run stamp found is of.1)
     point-fits run is (End op) of = subst (λ (o : ℕ). FitsEnd (take i log) o) (sym of.0) (end-fits run is of.1)
 
   -- the log is atomic

@@ -1,67 +1,88 @@
 -- The order of a key by the points of runs lists the runs by timestamp.
-use Rattle.std.proofs.Common.{◌≡◌, ℕ, ◌+◌, ◌≤◌, Bool, true, false, List, [], ◌∷◌, map, Option, Some, is_some, refl, sym, ap, subst, ◌∙◌, inl, inr, arith}
-use Rattle.std.specs.Prelude.{◌⊎◌, ◌||◌, not}
+use Rattle.std.proofs.Common.{◌≡◌, ℕ, ◌+◌, ◌≤◌, Bool, true, false, List, [], ◌∷◌, map, Option, Some, None, is_some, refl, sym, ap, subst, ◌∙◌, inl, inr, arith}
+use Rattle.std.specs.Prelude.{◌⊎◌, ◌||◌, ◌&&◌, not, if◌then◌else◌}
 use Rattle.std.specs.List.{AllByRecursion, slice_get}
 use Rattle.std.specs.Option.{option_map_or}
 use Rattle.std.proofs.lemmas.Bool.{both_ways, cases_lt}
-use Rattle.std.proofs.lemmas.Option.{same_Some}
+use Rattle.std.proofs.lemmas.Option.{none-some, same_Some}
 use Rattle.hy_record.specs.Key.{key_eq}
-use Rattle.hy_record.specs.Stamp.{Timestamp, stamp_lt}
-use Rattle.hy_record.proofs.Order.{key_eq-same}
+use Rattle.hy_record.specs.Stamp.{Timestamp, stamp_lt, stamp_eq}
+use Rattle.hy_record.proofs.Order.{key_eq-same, stamp_eq-true, stamp_eq-same}
 use Rattle.hy_points.specs.declared.mark.Mark.{Mark}
 use Rattle.hy_points.specs.declared.point.ActKind.{ActKind}
 use Rattle.hy_points.specs.declared.point.ActKind.TheVariants.{Put, Get, Delete, Swap}
 use Rattle.hy_points.specs.declared.point.Point.{Point}
-use Rattle.hy_points.specs.declared.point.Point.TheVariants.{Begin, Ask, Set, End}
+use Rattle.hy_points.specs.declared.point.Point.TheVariants.{Begin, Ask, Set, Try, End}
+use Rattle.hy_points.specs.declared.telling.Asking.{Asking}
 use Rattle.hy_points.specs.declared.telling.Setting.{Setting}
-use Rattle.hy_points.specs.Lookups.{Beginning, beginning, setting, ending_at, ending, has_ended}
+use Rattle.hy_points.specs.declared.telling.Trying.{Trying}
+use Rattle.hy_points.specs.Lookups.{Beginning, beginning, asking, setting, trying, asking_at, ending_at, ending, has_ended}
 use Rattle.hy_points.specs.Atomic.{IsAtomicLog, AsksOnce, no_stamp, writes}
 use Rattle.hy_points.specs.Marks.{moment_cmp, sorted_by, marks_of, op_of, linearization_of}
-use Rattle.hy_points.specs.Orders.{took_effect, is_listed, IsListed}
-use Rattle.hy_points.specs.Runs.{Reading, Writing, Run, IsPointOf, AreRuns}
+use Rattle.hy_points.specs.Orders.{took_effect, has_swapped, found_another, is_listed, IsListed}
+use Rattle.hy_points.specs.Runs.{Reading, Writing, Trial, Run, IsPointOf, AreRuns}
 use Rattle.hy_points.proofs.ByMoment.{stamp_of, reads_of, place_of}
-use Rattle.hy_points.proofs.Courses.{Writes, eqb-same, only-begun, only-set}
+use Rattle.hy_points.proofs.Swapping.{swap-same, IsSwapped, HasRead, Wrote}
+use Rattle.hy_points.proofs.Courses.{Writes, eqb-same, only-begun, only-set, only-tried}
 use Rattle.hy_points.proofs.Heights.{le-both}
 use Rattle.hy_points.proofs.InOrder.{MayPrecede, AreByStamp}
 use Rattle.hy_points.proofs.Listing.{IsIn, AllPairs, all-map}
 use Rattle.hy_points.proofs.LogLaw as law
 use Rattle.hy_points.proofs.OneOrder.{all-of, one-order}
-use Rattle.hy_points.proofs.Places.{first-upto, begun-there, asked-there, set-there, ended-there}
+use Rattle.hy_points.proofs.Places.{first-upto, begun-there, asked-there, set-there, tried-there, ended-there}
 use Rattle.hy_points.proofs.Placing.{IsMarkOf, IsReadMark, IsWriteMark, written, apart}
 use Rattle.hy_points.proofs.RunLog.{AreMomentsOf, in-at, at-in, map-at, of-map, some-of, rising-at, is-atomic, asks-once}
 use Rattle.hy_points.proofs.Sorting.{all-each}
 
--- the timestamp that a run wrote or found
-abbrev pub stamp_by : ActKind → Option Reading → Option Writing → Timestamp
-stamp_by Get asked set = option_map_or (λ (r : Reading). r.found) asked no_stamp
-stamp_by Put asked set = option_map_or (λ (w : Writing). w.stamp) set no_stamp
-stamp_by Delete asked set = option_map_or (λ (w : Writing). w.stamp) set no_stamp
-stamp_by (Swap expected) asked set = no_stamp
+-- a run writes: a put, a delete, or a swap that found what it expects when it tried
+abbrev pub writes_by : ActKind → Option Trial → Bool
+writes_by Put tried = true
+writes_by Delete tried = true
+writes_by Get tried = false
+writes_by (Swap expected) None = false
+writes_by (Swap expected) (Some t) = stamp_eq expected t.found
 
+-- where it read what it tells: at its try, else at its reading
+abbrev pub deciding : Option Reading → Option Trial → Option Reading
+deciding asked None = asked
+deciding asked (Some t) = Some (record { step = t.step; found = t.found })
+
+abbrev pub found_by : Option Reading → Timestamp
+found_by asked = option_map_or (λ (r : Reading). r.found) asked no_stamp
+
+abbrev pub written_by : Option Writing → Option Trial → Timestamp
+written_by set tried = option_map_or (λ (w : Writing). w.stamp) set (option_map_or (λ (t : Trial). t.stamp) tried no_stamp)
+
+-- the timestamp that a run wrote or found
 abbrev pub run_stamp : Run → Timestamp
-run_stamp run = stamp_by run.act run.asked run.set
+run_stamp run = if writes_by run.act run.tried then written_by run.set run.tried else found_by (deciding run.asked run.tried)
 
 -- it reads
 abbrev pub run_reads : Run → Bool
-run_reads run = not (writes run.act)
+run_reads run = not (writes_by run.act run.tried)
 
 -- the step of its reading
 abbrev pub run_rank : Run → ℕ
-run_rank run = option_map_or (λ (r : Reading). r.step) run.asked 0
+run_rank run = option_map_or (λ (r : Reading). r.step) (deciding run.asked run.tried) 0
 
--- a get that returned
+-- a get that returned, or a swap that returned and found what it does not expect
 pub record IsListedRead (run : Run) : Type 0 where
-  pub act : run.act ≡ Get
+  pub reads : run_reads run ≡ true
   pub reading : Reading
-  pub asked : run.asked ≡ Some reading
+  pub decided : deciding run.asked run.tried ≡ Some reading
+  pub other : (expected : Timestamp) → run.act ≡ Swap expected → stamp_eq expected reading.found ≡ false
   pub end : ℕ
   pub ended : run.ended ≡ Some end
 
--- a put or delete that has written, and whose writing was applied, or that returned
+-- the run wrote so: by its writing, or by its try
+abbrev pub WroteBy : Run → Writing → Type 0
+WroteBy run w = (run.set ≡ Some w) ⊎ ((t : Trial) × (run.set ≡ None) × (run.tried ≡ Some t) × (w ≡ record { step = t.step; stamp = t.stamp; is_applied = true }))
+
+-- a put or delete that has written, and whose writing was applied, or that returned; or a swap that was applied
 pub record IsListedWrite (run : Run) : Type 0 where
-  pub act : writes run.act ≡ true
+  pub writes : writes_by run.act run.tried ≡ true
   pub writing : Writing
-  pub set : run.set ≡ Some writing
+  pub wrote : WroteBy run writing
   pub took : (writing.is_applied ≡ true) ⊎ ((end : ℕ) × (run.ended ≡ Some end))
 
 -- a run of this number that an order of the key lists
@@ -79,27 +100,32 @@ pub record Precedes (Is : Run → Type 0) (key : List ℕ) (m n : ℕ) : Type 0 
   pub other : m ≡ n → ⊥
   pub may : MayPrecede run_stamp run_reads run_rank first.run second.run
 
+not-true : (b : Bool) → not b ≡ true → b ≡ false
+not-true false is = refl
+not-true true is = cc
+
 module _ (run : Run) where
   pub read-stamp : (r : IsListedRead run) → run_stamp run ≡ r.reading.found
-  read-stamp r = ap (λ (act : ActKind). stamp_by act run.asked run.set) r.act ∙ ap (λ (o : Option Reading). option_map_or (λ (x : Reading). x.found) o no_stamp) r.asked
+  read-stamp r =
+      ap (λ (b : Bool). if b then written_by run.set run.tried else found_by (deciding run.asked run.tried)) (not-true (writes_by run.act run.tried) r.reads)
+      ∙ ap found_by r.decided
 
   pub read-reads : IsListedRead run → run_reads run ≡ true
-  read-reads r = ap (λ (act : ActKind). not (writes act)) r.act
+  read-reads r = r.reads
 
   pub read-rank : (r : IsListedRead run) → run_rank run ≡ r.reading.step
-  read-rank r = ap (λ (o : Option Reading). option_map_or (λ (x : Reading). x.step) o 0) r.asked
-
-  write-by : (act : ActKind) → writes act ≡ true → stamp_by act run.asked run.set ≡ option_map_or (λ (w : Writing). w.stamp) run.set no_stamp
-  write-by Put is = refl
-  write-by Delete is = refl
-  write-by Get is = cc
-  write-by (Swap expected) is = cc
+  read-rank r = ap (λ (o : Option Reading). option_map_or (λ (x : Reading). x.step) o 0) r.decided
 
   pub write-stamp : (w : IsListedWrite run) → run_stamp run ≡ w.writing.stamp
-  write-stamp w = write-by run.act w.act ∙ ap (λ (o : Option Writing). option_map_or (λ (x : Writing). x.stamp) o no_stamp) w.set
+  write-stamp w =
+      ap (λ (b : Bool). if b then written_by run.set run.tried else found_by (deciding run.asked run.tried)) w.writes
+      ∙ elim w.wrote [
+        | inl set ↦ ap (λ (o : Option Writing). written_by o run.tried) set
+        | inr tried ↦ ap (λ (o : Option Writing). written_by o run.tried) tried.1 ∙ (ap (written_by None) tried.2 ∙ sym (ap (λ (x : Writing). x.stamp) tried.3))
+      ]
 
   pub write-reads : IsListedWrite run → run_reads run ≡ false
-  write-reads w = ap not w.act
+  write-reads w = ap not w.writes
 
 module _ {M : Type 0} (step : M → ℕ) (point : M → Point) (Is : Run → Type 0) (record_at : List ℕ → ℕ → Timestamp) (ms : List M) (moments : AreMomentsOf step point Is ms) (runs : AreRuns record_at Is) where
   abbrev log : List Point
@@ -173,6 +199,54 @@ module _ {M : Type 0} (step : M → ℕ) (point : M → Point) (Is : Run → Typ
       let at = place-at run w.step (Set run.op w.stamp w.is_applied) is (refl, set) in
       (at.0, only-set log atomic at.0 run.op w.stamp w.is_applied at.1)
 
+  run-tried : (run : Run) (r : Trial) → Is run → run.tried ≡ Some r → (place : ℕ) × (trying log run.op ≡ Some (record { place = place; stamp = r.stamp; found = r.found }))
+  run-tried run r is tried =
+      let at = place-at run r.step (Try run.op r.stamp r.found) is (refl, tried) in
+      (at.0, only-tried log atomic at.0 run.op r.stamp r.found at.1)
+
+  run-asked : (run : Run) (r : Reading) → Is run → run.asked ≡ Some r → (a : Asking) × (asking log run.op ≡ Some a) × (a.found ≡ r.found)
+  unfolding asking
+  run-asked run r is has =
+      let at = place-at run r.step (Ask run.op r.found) is (refl, has) in
+      let self : asking_at run.op (0 + at.0) (Ask run.op r.found) ≡ Some (record { place = 0 + at.0; found = r.found }) = rw (eqb-same run.op) refl in
+      let f = first-upto (asking_at run.op) 0 log at.0 (Ask run.op r.found) (record { place = 0 + at.0; found = r.found }) at.1 self in
+      let a = point-at f.0.place (Ask run.op f.0.found) (asked-there log run.op f.0 f.1) in
+      let same : a.run ≡ run = runs.numbers a.run run a.is is (sym a.of.0) in
+      (f.0, f.1, ap (λ (x : Reading). x.found) (same_Some (record { step = step a.moment; found = f.0.found }) r (sym a.of.1 ∙ ap (λ (x : Run). x.asked) same ∙ has)))
+
+  -- a run without a try has none in the log, and the other way
+  none-tried : (run : Run) → Is run → run.tried ≡ None → trying log run.op ≡ None
+  none-tried run is none = by_try (trying log run.op) refl
+    where
+      by_try : (o : Option Trying) → trying log run.op ≡ o → o ≡ None
+      by_try None e = refl
+      by_try (Some q) e =
+          (let x = point-at q.place (Try run.op q.stamp q.found) (tried-there log run.op q e) in
+          let same : x.run ≡ run = runs.numbers x.run run x.is is (sym x.of.0) in
+          absurd (none-some (record { step = step x.moment; stamp = q.stamp; found = q.found }) (sym none ∙ (ap (λ (r : Run). r.tried) (sym same) ∙ x.of.1))))
+
+  tried-none : (run : Run) → Is run → trying log run.op ≡ None → run.tried ≡ None
+  tried-none run is none = by_try run.tried refl
+    where
+      by_try : (o : Option Trial) → run.tried ≡ o → o ≡ None
+      by_try None e = refl
+      by_try (Some r) e = (let x = run-tried run r is e in absurd (none-some (record { place = x.0; stamp = r.stamp; found = r.found }) (sym none ∙ x.1)))
+
+  -- only swaps try, and only puts and deletes write
+  act-tried : (run : Run) → Is run → ((expected : Timestamp) → run.act ≡ Swap expected → ⊥) → run.tried ≡ None
+  act-tried run is other = by_try run.tried refl
+    where
+      by_try : (o : Option Trial) → run.tried ≡ o → o ≡ None
+      by_try None e = refl
+      by_try (Some r) e = (let t = runs.tries run r is e in absurd (other t.expected t.is_swap))
+
+  act-set : (run : Run) → Is run → (expected : Timestamp) → run.act ≡ Swap expected → run.set ≡ None
+  act-set run is expected kind = by_set run.set refl
+    where
+      by_set : (o : Option Writing) → run.set ≡ o → o ≡ None
+      by_set None e = refl
+      by_set (Some w) e = (let f : writes (Swap expected) ≡ true = ap writes (sym kind) ∙ (runs.sets run w is e).is_write in cc)
+
   module _ (key : List ℕ) where
     -- ---- a mark is that of a run
 
@@ -182,12 +256,60 @@ module _ {M : Type 0} (step : M → ℕ) (point : M → Point) (Is : Run → Typ
       reads : run_reads listed.run ≡ m.reads
       rank : m.reads ≡ true → (x : M) × (slice_get ms m.place ≡ Some x) × (step x ≡ run_rank listed.run)
 
+    -- a run that read, and the moment at which it did
+    record HasRun (m : Mark) (begun : Beginning) (run : Run) (ask : Asking) : Type 0 where
+      moment : M
+      there : slice_get ms ask.place ≡ Some moment
+      reads : run_reads run ≡ true
+      decided : deciding run.asked run.tried ≡ Some (record { step = step moment; found = ask.found })
+      other : (expected : Timestamp) → run.act ≡ Swap expected → stamp_eq expected ask.found ≡ false
+
+    by-read : (m : Mark) (begun : Beginning) (run : Run) → Is run → run.op ≡ m.op → run.act ≡ begun.act → (ask : Asking) → HasRead log m.op begun.act ask → HasRun m begun run ask
+    by-read m begun run is op_is act_is ask (inl get) =
+        let a = point-at ask.place (Ask m.op ask.found) (asked-there log m.op ask get.1) in
+        let same : a.run ≡ run = runs.numbers a.run run a.is is (sym a.of.0 ∙ sym op_is) in
+        let act : run.act ≡ Get = act_is ∙ get.0 in
+        let none : run.tried ≡ None = act-tried run is (λ expected e. differ expected (sym act ∙ e)) in
+        record {
+          moment = a.moment;
+          there = a.there;
+          reads = ap (λ (x : ActKind). not (writes_by x run.tried)) act;
+          decided = ap (deciding run.asked) none ∙ (sym (ap (λ (x : Run). x.asked) same) ∙ a.of.1);
+          other = λ expected e. absurd (differ expected (sym act ∙ e));
+        }
+      where
+        differ : (expected : Timestamp) → Get ≡ Swap expected → ⊥
+        differ expected e = cc
+    by-read m begun run is op_is act_is ask (inr (inl by)) =
+        let a = point-at ask.place (Ask m.op ask.found) (asked-there log m.op ask by.asked) in
+        let same : a.run ≡ run = runs.numbers a.run run a.is is (sym a.of.0 ∙ sym op_is) in
+        let act : run.act ≡ Swap by.expected = act_is ∙ by.kind in
+        let none : run.tried ≡ None = tried-none run is (ap (trying log) op_is ∙ by.none) in
+        record {
+          moment = a.moment;
+          there = a.there;
+          reads = ap (λ (x : ActKind). not (writes_by x run.tried)) act ∙ ap (λ (o : Option Trial). not (writes_by (Swap by.expected) o)) none;
+          decided = ap (deciding run.asked) none ∙ (sym (ap (λ (x : Run). x.asked) same) ∙ a.of.1);
+          other = λ expected e. ap (λ (x : Timestamp). stamp_eq x ask.found) (swap-same (sym e ∙ act)) ∙ by.other;
+        }
+    by-read m begun run is op_is act_is ask (inr (inr by)) =
+        let a = point-at by.tried.place (Try m.op by.tried.stamp by.tried.found) (tried-there log m.op by.tried by.has) in
+        let same : a.run ≡ run = runs.numbers a.run run a.is is (sym a.of.0 ∙ sym op_is) in
+        let act : run.act ≡ Swap by.expected = act_is ∙ by.kind in
+        let tried : run.tried ≡ Some (record { step = step a.moment; stamp = by.tried.stamp; found = by.tried.found }) = sym (ap (λ (x : Run). x.tried) same) ∙ a.of.1 in
+        record {
+          moment = a.moment;
+          there = ap (λ (x : Asking). slice_get ms x.place) by.is ∙ a.there;
+          reads = ap (λ (x : ActKind). not (writes_by x run.tried)) act ∙ (ap (λ (o : Option Trial). not (writes_by (Swap by.expected) o)) tried ∙ ap not by.other);
+          decided = ap (deciding run.asked) tried ∙ ap (λ (x : Asking). Some (record { step = step a.moment; found = x.found })) (sym by.is);
+          other = λ expected e. ap (λ (x : Timestamp). stamp_eq x ask.found) (swap-same (sym e ∙ act)) ∙ (ap (λ (x : Asking). stamp_eq by.expected x.found) by.is ∙ by.other);
+        }
+
     read-run : (m : Mark) (begun : Beginning) (run : Run) → Is run → run.op ≡ m.op → run.key ≡ key → run.act ≡ begun.act → IsReadMark log begun m → IsMarkRun m
     read-run m begun run is op_is key_is act_is read =
-        let a = point-at read.ask.place (Ask m.op read.ask.found) (asked-there log m.op read.ask read.asked) in
-        let same : a.run ≡ run = runs.numbers a.run run a.is is (sym a.of.0 ∙ sym op_is) in
+        let a = by-read m begun run is op_is act_is read.ask read.by in
         let e = ended-run run is (ap (has_ended log) op_is ∙ read.ended) in
-        let r : IsListedRead run = record { act = act_is ∙ read.act; reading = record { step = step a.moment; found = read.ask.found }; asked = sym (ap (λ (x : Run). x.asked) same) ∙ a.of.1; end = e.0; ended = e.1 } in
+        let r : IsListedRead run = record { reads = a.reads; reading = record { step = step a.moment; found = read.ask.found }; decided = a.decided; other = a.other; end = e.0; ended = e.1 } in
         record {
           listed = record { run = run; is = is; key_is = key_is; number_is = op_is; sort = inl r };
           stamp = read-stamp run r ∙ sym (law.read-stamp log key begun m read);
@@ -195,14 +317,42 @@ module _ {M : Type 0} (step : M → ℕ) (point : M → Point) (Is : Run → Typ
           rank = λ reads. (a.moment, ap (slice_get ms) (law.read-place log key begun m read) ∙ a.there, sym (read-rank run r));
         }
 
+    -- a run that wrote
+    record HasWritten (run : Run) (set : Setting) : Type 0 where
+      writes : writes_by run.act run.tried ≡ true
+      at : ℕ
+      wrote : WroteBy run (record { step = at; stamp = set.stamp; is_applied = set.is_applied })
+
+    by-write : (op : ℕ) (act : ActKind) (run : Run) → Is run → run.op ≡ op → run.act ≡ act → (set : Setting) → Wrote log op act set → HasWritten run set
+    by-write op act run is op_is act_is set (inl by) =
+        let s = point-at set.place (Set op set.stamp set.is_applied) (set-there log op set by.1) in
+        let same : s.run ≡ run = runs.numbers s.run run s.is is (sym s.of.0 ∙ sym op_is) in
+        record { writes = by_act run.act (ap writes act_is ∙ by.0); at = step s.moment; wrote = inl (sym (ap (λ (x : Run). x.set) same) ∙ s.of.1) }
+      where
+        by_act : (act : ActKind) → writes act ≡ true → writes_by act run.tried ≡ true
+        by_act Put is = refl
+        by_act Delete is = refl
+        by_act Get is = cc
+        by_act (Swap expected) is = cc
+    by-write op act run is op_is act_is set (inr by) =
+        let s = point-at by.tried.place (Try op by.tried.stamp by.tried.found) (tried-there log op by.tried by.has) in
+        let same : s.run ≡ run = runs.numbers s.run run s.is is (sym s.of.0 ∙ sym op_is) in
+        let t : Trial = record { step = step s.moment; stamp = by.tried.stamp; found = by.tried.found } in
+        let tried : run.tried ≡ Some t = sym (ap (λ (x : Run). x.tried) same) ∙ s.of.1 in
+        let kind : run.act ≡ Swap by.tried.found = act_is ∙ by.kind in
+        record {
+          writes = ap (λ (x : ActKind). writes_by x run.tried) kind ∙ (ap (writes_by (Swap by.tried.found)) tried ∙ stamp_eq-same by.tried.found);
+          at = step s.moment;
+          wrote = inr (t, act-set run is by.tried.found kind, tried, ap (λ (x : Setting). record { step = step s.moment; stamp = x.stamp; is_applied = x.is_applied }) by.is);
+        }
+
     write-run : (m : Mark) (begun : Beginning) (run : Run) → Is run → run.op ≡ m.op → run.key ≡ key → run.act ≡ begun.act → IsWriteMark log key begun m → IsMarkRun m
     write-run m begun run is op_is key_is act_is write =
-        let s = point-at write.set.place (Set m.op write.set.stamp write.set.is_applied) (set-there log m.op write.set write.has) in
-        let same : s.run ≡ run = runs.numbers s.run run s.is is (sym s.of.0 ∙ sym op_is) in
+        let a = by-write m.op begun.act run is op_is act_is write.set write.by in
         let w : IsListedWrite run = record {
-          act = ap writes act_is ∙ write.act;
-          writing = record { step = step s.moment; stamp = write.set.stamp; is_applied = write.set.is_applied };
-          set = sym (ap (λ (x : Run). x.set) same) ∙ s.of.1;
+          writes = a.writes;
+          writing = record { step = a.at; stamp = write.set.stamp; is_applied = write.set.is_applied };
+          wrote = a.wrote;
           took = elim write.is [ inl applied ↦ inl applied.0 | inr refused ↦ inr (ended-run run is (ap (has_ended log) op_is ∙ refused.1)) ];
         } in
         record {
@@ -272,8 +422,8 @@ module _ {M : Type 0} (step : M → ℕ) (point : M → Point) (Is : Run → Typ
           is_begun = ap (beginning log) (sym r.number_is) ∙ b.1;
           is_of = ap (λ (k : List ℕ). key_eq k key) r.key_is ∙ key_eq-same key;
           is_listed = subst (λ (n : ℕ). is_listed log n r.run.act ≡ true) r.number_is (elim r.sort [
-            | inl read ↦ ap (is_listed log r.run.op) read.act ∙ run-ended r.run read.end r.is read.ended
-            | inr write ↦ by_act r.run.act write.act (ap (took_effect (has_ended log r.run.op)) (run-set r.run write.writing r.is write.set).1 ∙ took write.writing.is_applied write.took)
+            | inl read ↦ by_read read r.run.act refl
+            | inr write ↦ by_wrote write write.wrote
           ]);
         }
       where
@@ -287,27 +437,87 @@ module _ {M : Type 0} (step : M → ℕ) (point : M → Point) (Is : Run → Typ
         by_act Get is e = cc
         by_act (Swap expected) is e = cc
 
+        by_tried : (read : IsListedRead r.run) (expected : Timestamp) → r.run.act ≡ Swap expected → (o : Option Trial) → r.run.tried ≡ o → found_another expected (asking log r.run.op) (trying log r.run.op) ≡ true
+        by_tried read expected kind None none =
+            (let a = run-asked r.run read.reading r.is (sym (ap (deciding r.run.asked) none) ∙ read.decided) in
+            ap (found_another expected (asking log r.run.op)) (none-tried r.run r.is none)
+            ∙ (ap (λ (o : Option Asking). found_another expected o None) a.1 ∙ ap not (ap (stamp_eq expected) a.2 ∙ read.other expected kind)))
+        by_tried read expected kind (Some t) tried =
+            (let q = run-tried r.run t r.is tried in
+            let same = ap (λ (x : Reading). x.found) (same_Some (record { step = t.step; found = t.found }) read.reading (sym (ap (deciding r.run.asked) tried) ∙ read.decided)) in
+            ap (found_another expected (asking log r.run.op)) q.1 ∙ ap not (ap (stamp_eq expected) same ∙ read.other expected kind))
+
+        by_read : (read : IsListedRead r.run) → (act : ActKind) → r.run.act ≡ act → is_listed log r.run.op act ≡ true
+        by_read read Get kind = run-ended r.run read.end r.is read.ended
+        by_read read Put kind = absurd (both_ways (run_reads r.run) (ap (λ (x : ActKind). not (writes_by x r.run.tried)) kind) read.reads)
+        by_read read Delete kind = absurd (both_ways (run_reads r.run) (ap (λ (x : ActKind). not (writes_by x r.run.tried)) kind) read.reads)
+        by_read read (Swap expected) kind =
+            or-true (has_swapped expected (trying log r.run.op)) _
+            (ap (λ (b : Bool). b && found_another expected (asking log r.run.op) (trying log r.run.op)) (run-ended r.run read.end r.is read.ended) ∙ by_tried read expected kind r.run.tried refl)
+
+        by_wrote : (write : IsListedWrite r.run) → WroteBy r.run write.writing → is_listed log r.run.op r.run.act ≡ true
+        by_wrote write (inl set) =
+            by_act r.run.act (runs.sets r.run write.writing r.is set).is_write (ap (took_effect (has_ended log r.run.op)) (run-set r.run write.writing r.is set).1 ∙ took write.writing.is_applied write.took)
+        by_wrote write (inr tried) =
+            (let t = runs.tries r.run tried.0 r.is tried.2 in
+            let q = run-tried r.run tried.0 r.is tried.2 in
+            let met : stamp_eq t.expected tried.0.found ≡ true = sym (ap (λ (x : ActKind). writes_by x r.run.tried) t.is_swap ∙ ap (writes_by (Swap t.expected)) tried.2) ∙ write.writes in
+            ap (is_listed log r.run.op) t.is_swap
+            ∙ ap (λ (b : Bool). b || (has_ended log r.run.op && found_another t.expected (asking log r.run.op) (trying log r.run.op))) (ap (has_swapped t.expected) q.1 ∙ met))
+
     -- ---- no two runs stand each before the other
 
-    writing-at : (run : Run) → Is run → run.key ≡ key → (w : IsListedWrite run) → (set : Setting) × (setting log run.op ≡ Some set) × Writes log key run.op set × (set.stamp ≡ run_stamp run)
-    writing-at run is key_is w =
-        let b = run-begun run is in
-        let s = run-set run w.writing is w.set in
-        let set : Setting = record { place = s.0; stamp = w.writing.stamp; is_applied = w.writing.is_applied } in
-        (set, s.1, written log atomic once key run.op set s.1 (began run b.0) b.1 key_is, sym (write-stamp run w))
+    writing-at : (run : Run) → Is run → run.key ≡ key → (w : IsListedWrite run) → (set : Setting) × Writes log key run.op set × (set.stamp ≡ run_stamp run)
+    writing-at run is key_is w = by_wrote w.wrote
+      where
+        by_wrote : WroteBy run w.writing → (set : Setting) × Writes log key run.op set × (set.stamp ≡ run_stamp run)
+        by_wrote (inl has) =
+            (let b = run-begun run is in
+            let s = run-set run w.writing is has in
+            let set : Setting = record { place = s.0; stamp = w.writing.stamp; is_applied = w.writing.is_applied } in
+            (set, written log atomic once key run.op set (began run b.0) b.1 key_is (inl ((runs.sets run w.writing is has).is_write, s.1)), sym (write-stamp run w)))
+        by_wrote (inr tried) =
+            (let b = run-begun run is in
+            let t = runs.tries run tried.0 is tried.2 in
+            let q = run-tried run tried.0 is tried.2 in
+            let met : stamp_eq t.expected tried.0.found ≡ true = sym (ap (λ (x : ActKind). writes_by x run.tried) t.is_swap ∙ ap (writes_by (Swap t.expected)) tried.2) ∙ w.writes in
+            let set : Setting = record { place = q.0; stamp = tried.0.stamp; is_applied = true } in
+            let swapped : IsSwapped log run.op run.act set = record {
+              tried = record { place = q.0; stamp = tried.0.stamp; found = tried.0.found };
+              kind = t.is_swap ∙ ap Swap (stamp_eq-true t.expected tried.0.found met);
+              has = q.1;
+              is = refl;
+            } in
+            (set, written log atomic once key run.op set (began run b.0) b.1 key_is (inr swapped), ap (λ (x : Writing). x.stamp) (sym tried.3) ∙ sym (write-stamp run w)))
+
+    abbrev op_in : Point → ℕ
+    op_in (Begin op client k act) = op
+    op_in (Ask op found) = op
+    op_in (Set op stamp applied) = op
+    op_in (Try op stamp found) = op
+    op_in (End op) = op
+
+    -- the point at which a run read
+    read-point : (run : Run) → (r : IsListedRead run) → (q : Point) × IsPointOf run r.reading.step q × (op_in q ≡ run.op)
+    read-point run r = by_tried run.tried refl
+      where
+        by_tried : (o : Option Trial) → run.tried ≡ o → (q : Point) × IsPointOf run r.reading.step q × (op_in q ≡ run.op)
+        by_tried None none = (Ask run.op r.reading.found, (refl, sym (ap (deciding run.asked) none) ∙ r.decided), refl)
+        by_tried (Some t) tried =
+            (let same : t.step ≡ r.reading.step = ap (λ (x : Reading). x.step) (same_Some (record { step = t.step; found = t.found }) r.reading (sym (ap (deciding run.asked) tried) ∙ r.decided)) in
+            (Try run.op t.stamp t.found, (refl, tried ∙ ap (λ (n : ℕ). Some (record { step = n; stamp = t.stamp; found = t.found })) same), refl))
 
     one-ask : (a b : Run) → Is a → Is b → (r : IsListedRead a) → (s : IsListedRead b) → r.reading.step ≡ s.reading.step → a.op ≡ b.op
     one-ask a b is too r s same =
-        let x = moments.has a r.reading.step (Ask a.op r.reading.found) is (refl, r.asked) in
-        let y = moments.has b s.reading.step (Ask b.op s.reading.found) too (refl, s.asked) in
+        let p = read-point a r in
+        let q = read-point b s in
+        let x = moments.has a r.reading.step p.0 is p.1 in
+        let y = moments.has b s.reading.step q.0 too q.1 in
         let at = in-at ms x.0 x.1 in
         let there = in-at ms y.0 y.1 in
         let here = x.2 in let also = y.2 in
         let one : x.0 ≡ y.0 = one-moment at.0 there.0 x.0 y.0 at.1 there.1 (here ∙ (same ∙ sym also)) in
-        op-of (sym x.3 ∙ (ap point one ∙ y.3))
-      where
-        op-of : {m n : ℕ} {s t : Timestamp} → Ask m s ≡ Ask n t → m ≡ n
-        op-of e = cc
+        sym p.2 ∙ (ap op_in (sym x.3 ∙ (ap point one ∙ y.3)) ∙ q.2)
 
     abbrev Stands : Run → Run → Type 0
     Stands a b = MayPrecede run_stamp run_reads run_rank a b
@@ -329,7 +539,7 @@ module _ {M : Type 0} (step : M → ℕ) (point : M → Point) (Is : Run → Typ
         by_sorts (inr v) (inr w) =
             (let s = writing-at a is key_is v in
             let u = writing-at b too key_too w in
-            apart log atomic once key a.op b.op s.0 u.0 s.1 s.2 u.1 u.2 other (s.3 ∙ (stamps ∙ sym u.3)))
+            apart log atomic once key a.op b.op s.0 u.0 s.1 u.1 other (s.2 ∙ (stamps ∙ sym u.2)))
 
     one-way : (m n : ℕ) → Precedes Is key m n → Precedes Is key n m → ⊥
     one-way m n there back =

@@ -4,9 +4,9 @@ use Rattle.std.specs.Option.{option_or}
 use Rattle.hy_record.specs.Stamp.{Timestamp}
 use Rattle.hy_points.specs.declared.point.ActKind.{ActKind}
 use Rattle.hy_points.specs.declared.point.Point.{Point}
-use Rattle.hy_points.specs.declared.point.Point.TheVariants.{Begin, Ask, Set, End}
+use Rattle.hy_points.specs.declared.point.Point.TheVariants.{Begin, Ask, Set, Try, End}
 use Rattle.std.proofs.lemmas.List.{take_more, length-take-le}
-use Rattle.hy_points.specs.Lookups.{first_from, last_from, asking_at, setting_at, ending_at}
+use Rattle.hy_points.specs.Lookups.{first_from, last_from, asking_at, setting_at, trying_at, ending_at}
 use Rattle.hy_points.specs.Index.{AreFirsts, under, key_at}
 
 pub or-none : {A : Type 0} (a : Option A) → option_or a None ≡ a
@@ -57,22 +57,33 @@ pub key-none : (point : Point) → ((o client : ℕ) (key : List ℕ) (act : Act
 key-none (Begin o client key act) other op place = absurd (other o client key act refl)
 key-none (Ask o found) other op place = refl
 key-none (Set o stamp applied) other op place = refl
+key-none (Try o stamp found) other op place = refl
 key-none (End o) other op place = refl
 
 pub asking-none : (point : Point) → ((o : ℕ) (found : Timestamp) → point ≡ Ask o found → ⊥) → (op place : ℕ) → asking_at op place point ≡ None
 asking-none (Begin o client key act) other op place = refl
 asking-none (Ask o found) other op place = absurd (other o found refl)
 asking-none (Set o stamp applied) other op place = refl
+asking-none (Try o stamp found) other op place = refl
 asking-none (End o) other op place = refl
 
 pub setting-none : (point : Point) → ((o : ℕ) (stamp : Timestamp) (applied : Bool) → point ≡ Set o stamp applied → ⊥) → (op place : ℕ) → setting_at op place point ≡ None
 setting-none (Begin o client key act) other op place = refl
 setting-none (Ask o found) other op place = refl
 setting-none (Set o stamp applied) other op place = absurd (other o stamp applied refl)
+setting-none (Try o stamp found) other op place = refl
 setting-none (End o) other op place = refl
+
+pub trying-none : (point : Point) → ((o : ℕ) (stamp found : Timestamp) → point ≡ Try o stamp found → ⊥) → (op place : ℕ) → trying_at op place point ≡ None
+trying-none (Begin o client key act) other op place = refl
+trying-none (Ask o found) other op place = refl
+trying-none (Set o stamp applied) other op place = refl
+trying-none (Try o stamp found) other op place = absurd (other o stamp found refl)
+trying-none (End o) other op place = refl
 
 pub ending-none : (point : Point) → ((o : ℕ) → point ≡ End o → ⊥) → (op place : ℕ) → ending_at op place point ≡ None
 ending-none (Begin o client key act) other op place = refl
 ending-none (Ask o found) other op place = refl
 ending-none (Set o stamp applied) other op place = refl
+ending-none (Try o stamp found) other op place = refl
 ending-none (End o) other op place = absurd (other o refl)

@@ -11,10 +11,11 @@ use Rattle.std.specs.Ordering.{nat_cmp}
 use Rattle.hy_record.specs.Stamp.{Timestamp, stamp_lt}
 use Rattle.hy_points.specs.declared.telling.Asking.{Asking}
 use Rattle.hy_points.specs.declared.telling.Setting.{Setting}
+use Rattle.hy_points.specs.declared.telling.Trying.{Trying}
 use Rattle.hy_points.specs.declared.peaks.Peak.{Peak}
 use Rattle.hy_points.specs.declared.point.Point.{Point}
-use Rattle.hy_points.specs.declared.point.Point.TheVariants.{Begin, Ask, Set, End}
-use Rattle.hy_points.specs.Lookups.{first_from, asking_at, setting_at, ending_at}
+use Rattle.hy_points.specs.declared.point.Point.TheVariants.{Begin, Ask, Set, Try, End}
+use Rattle.hy_points.specs.Lookups.{first_from, asking_at, setting_at, trying_at, ending_at}
 use Rattle.hy_points.specs.Marks.{overwriting}
 
 -- ---- operations
@@ -32,6 +33,7 @@ abbrev pub key_at : ℕ → ℕ → Point → Option (List ℕ)
 key_at op place (Begin o client key act) = if o == op then Some key else None
 key_at op place (Ask o found) = None
 key_at op place (Set o stamp applied) = None
+key_at op place (Try o stamp found) = None
 key_at op place (End o) = None
 
 -- ---- applied writings
@@ -42,6 +44,7 @@ applied_writing entries (Begin op client key act) = None
 applied_writing entries (Ask op found) = None
 applied_writing entries (Set op stamp applied) =
     if applied then option_map (λ (key : List ℕ). (key, stamp)) (under entries op) else None
+applied_writing entries (Try op stamp found) = None
 applied_writing entries (End op) = None
 
 -- the timestamp is above that of the last
@@ -77,8 +80,9 @@ module _ {Z : Type 0} where
 
   -- the index is that of the log
   pub record IsIndex (log : List Point) (askings : List (ℕ × Asking)) (settings : List (ℕ × Setting))
-      (endings : List (ℕ × ℕ)) (peaks : List (List ℕ × Vec Peak Z)) : Type 0 where
+      (tryings : List (ℕ × Trying)) (endings : List (ℕ × ℕ)) (peaks : List (List ℕ × Vec Peak Z)) : Type 0 where
     pub asks : AreFirsts asking_at log askings
     pub sets : AreFirsts setting_at log settings
+    pub tries : AreFirsts trying_at log tryings
     pub ends : AreFirsts ending_at log endings
     pub raises : ArePeaks log peaks

@@ -4,9 +4,10 @@ use Rattle.std.specs.Option.{option_or, option_map_or}
 use Rattle.hy_record.specs.Key.{key_eq}
 use Rattle.hy_points.specs.declared.point.ActKind.{ActKind}
 use Rattle.hy_points.specs.declared.point.Point.{Point}
-use Rattle.hy_points.specs.declared.point.Point.TheVariants.{Begin, Ask, Set, End}
+use Rattle.hy_points.specs.declared.point.Point.TheVariants.{Begin, Ask, Set, Try, End}
 use Rattle.hy_points.specs.declared.telling.Asking.{Asking}
 use Rattle.hy_points.specs.declared.telling.Setting.{Setting}
+use Rattle.hy_points.specs.declared.telling.Trying.{Trying}
 
 -- what the first point tells that tells something, where the first of the list stands at this place
 abbrev pub first_from : {A : Type 0} → (ℕ → Point → Option A) → ℕ → List Point → Option A
@@ -31,6 +32,7 @@ beginning_at op place (Begin o client key act) =
     if o == op then Some (record { place = place; client = client; key = key; act = act }) else None
 beginning_at op place (Ask o found) = None
 beginning_at op place (Set o stamp applied) = None
+beginning_at op place (Try o stamp found) = None
 beginning_at op place (End o) = None
 
 -- a reading of the operation
@@ -38,6 +40,7 @@ abbrev pub asking_at : ℕ → ℕ → Point → Option Asking
 asking_at op place (Begin o client key act) = None
 asking_at op place (Ask o found) = if o == op then Some (record { place = place; found = found }) else None
 asking_at op place (Set o stamp applied) = None
+asking_at op place (Try o stamp found) = None
 asking_at op place (End o) = None
 
 -- a writing of the operation
@@ -46,13 +49,24 @@ setting_at op place (Begin o client key act) = None
 setting_at op place (Ask o found) = None
 setting_at op place (Set o stamp applied) =
     if o == op then Some (record { place = place; stamp = stamp; is_applied = applied }) else None
+setting_at op place (Try o stamp found) = None
 setting_at op place (End o) = None
+
+-- a try of the operation
+abbrev pub trying_at : ℕ → ℕ → Point → Option Trying
+trying_at op place (Begin o client key act) = None
+trying_at op place (Ask o found) = None
+trying_at op place (Set o stamp applied) = None
+trying_at op place (Try o stamp found) =
+    if o == op then Some (record { place = place; stamp = stamp; found = found }) else None
+trying_at op place (End o) = None
 
 -- the return of the operation
 abbrev pub ending_at : ℕ → ℕ → Point → Option ℕ
 ending_at op place (Begin o client key act) = None
 ending_at op place (Ask o found) = None
 ending_at op place (Set o stamp applied) = None
+ending_at op place (Try o stamp found) = None
 ending_at op place (End o) = if o == op then Some place else None
 
 -- the beginning of the operation in the log
@@ -70,6 +84,10 @@ last_asking log op = last_from (asking_at op) 0 log
 -- its first writing
 unfoldable pub setting : List Point → ℕ → Option Setting
 setting log op = first_from (setting_at op) 0 log
+
+-- its first try
+unfoldable pub trying : List Point → ℕ → Option Trying
+trying log op = first_from (trying_at op) 0 log
 
 -- the place of its return
 unfoldable pub ending : List Point → ℕ → Option ℕ

@@ -5,20 +5,21 @@ use Rattle.std.specs.Option.{option_map, option_map_or}
 use Rattle.std.specs.Ordering.{nat_cmp, bool_cmp, is_lt, ordering_then}
 use Rattle.std.specs.declared.cmp.Ordering.{Ordering}
 use Rattle.hy_record.specs.Key.{key_eq}
-use Rattle.hy_record.specs.Stamp.{Timestamp, stamp_lt, stamp_cmp}
+use Rattle.hy_record.specs.Stamp.{Timestamp, stamp_lt, stamp_eq, stamp_cmp}
 use Rattle.hy_points.specs.declared.telling.Asking.{Asking}
 use Rattle.hy_points.specs.declared.telling.Setting.{Setting}
+use Rattle.hy_points.specs.declared.telling.Trying.{Trying}
 use Rattle.hy_points.specs.declared.mark.Mark.{Mark}
 use Rattle.hy_points.specs.declared.point.ActKind.{ActKind}
 use Rattle.hy_points.specs.declared.point.ActKind.TheVariants.{Put, Get, Delete, Swap}
 use Rattle.hy_points.specs.declared.point.Point.{Point}
-use Rattle.hy_points.specs.declared.point.Point.TheVariants.{Begin, Ask, Set, End}
+use Rattle.hy_points.specs.declared.point.Point.TheVariants.{Begin, Ask, Set, Try, End}
 use Rattle.std.specs.BTreeMap.{is_at}
 use Rattle.std.specs.Cmp.Lexicographic.{slice_cmp}
 use Rattle.std.specs.Map.{lookup}
 use Rattle.hy_order.specs.Keys.{sorted_keys}
 use Rattle.hy_order.specs.declared.order.Order.{Order}
-use Rattle.hy_points.specs.Lookups.{first_from, asking, setting, has_ended, is_of_key}
+use Rattle.hy_points.specs.Lookups.{first_from, asking, setting, trying, has_ended, is_of_key}
 
 -- the place of an applied writing of the key with a greater timestamp
 abbrev pub overwriting_at : List Point → List ℕ → Timestamp → ℕ → Point → Option ℕ
@@ -26,6 +27,7 @@ overwriting_at log key stamp place (Begin o client k act) = None
 overwriting_at log key stamp place (Ask o found) = None
 overwriting_at log key stamp place (Set o s applied) =
     if applied && is_of_key log key o && stamp_lt stamp s then Some place else None
+overwriting_at log key stamp place (Try o s found) = None
 overwriting_at log key stamp place (End o) = None
 
 -- the place of the first applied writing of the key with a greater timestamp
@@ -52,18 +54,36 @@ read_mark ended op None = None
 read_mark ended op (Some ask) =
     if ended then Some (record { place = ask.place; is_at = true; stamp = ask.found; reads = true; op = op }) else None
 
+-- what a swap found first, where it does not expect that
+abbrev pub unexpected : Timestamp → Option Asking → Option Asking
+unexpected expected None = None
+unexpected expected (Some ask) = if stamp_eq expected ask.found then None else Some ask
+
+-- a swap that tried stands there: as a write where it found what it expects, else as a read, where it returned
+abbrev pub tried_mark : Bool → Timestamp → ℕ → Trying → Option Mark
+tried_mark ended expected op tried =
+    if stamp_eq expected tried.found
+    then Some (record { place = tried.place; is_at = true; stamp = tried.stamp; reads = false; op = op })
+    else read_mark ended op (Some (record { place = tried.place; found = tried.found }))
+
+-- one that did not try, and returned, stands where it found what it does not expect, as a read
+abbrev pub swap_mark : Bool → Timestamp → ℕ → Option Asking → Option Trying → Option Mark
+swap_mark ended expected op asked None = read_mark ended op (unexpected expected asked)
+swap_mark ended expected op asked (Some tried) = tried_mark ended expected op tried
+
 -- the mark of an operation of the key, where it is listed
 abbrev pub operation_mark : List Point → List ℕ → ℕ → ActKind → Option Mark
 operation_mark log key op Get = read_mark (has_ended log op) op (asking log op)
 operation_mark log key op Put = write_mark log key op (setting log op)
 operation_mark log key op Delete = write_mark log key op (setting log op)
-operation_mark log key op (Swap expected) = None
+operation_mark log key op (Swap expected) = swap_mark (has_ended log op) expected op (asking log op) (trying log op)
 
 -- the mark of the operation that begins at the point, where it is one of the key
 abbrev pub point_mark : List Point → List ℕ → Point → Option Mark
 point_mark log key (Begin op client k act) = if key_eq k key then operation_mark log key op act else None
 point_mark log key (Ask op found) = None
 point_mark log key (Set op stamp applied) = None
+point_mark log key (Try op stamp found) = None
 point_mark log key (End op) = None
 
 -- the marks of the key, in the order of the beginnings
@@ -108,6 +128,7 @@ abbrev pub begun_key : Point → Option (List ℕ)
 begun_key (Begin op client key act) = Some key
 begun_key (Ask op found) = None
 begun_key (Set op stamp applied) = None
+begun_key (Try op stamp found) = None
 begun_key (End op) = None
 
 -- the keys on which the log begins operations
@@ -128,6 +149,7 @@ own_mark log (Begin op client key act) =
     option_map {U = List ℕ × Mark} (λ (mark : Mark). (key, mark)) (operation_mark log key op act)
 own_mark log (Ask op found) = None
 own_mark log (Set op stamp applied) = None
+own_mark log (Try op stamp found) = None
 own_mark log (End op) = None
 
 module _ {Z : Type 0} where

@@ -3,10 +3,10 @@
 ghost use Rattle.std.specs.Prelude.{◌≡◌, ◌==◌, ℕ, Some, None, IfOk, OnOk, if◌then◌else◌};
 ghost use Rattle.std.specs.Option.{option_or};
 ghost use Rattle.hy_points.specs.Index.{AreFirsts, under, key_at};
-ghost use Rattle.hy_points.specs.Lookups.{asking_at, setting_at, ending_at};
+ghost use Rattle.hy_points.specs.Lookups.{asking_at, setting_at, trying_at, ending_at};
 
 use crate::point::Point;
-use crate::telling::{Asking, Setting};
+use crate::telling::{Asking, Setting, Trying};
 use hy_base::NoMemory;
 use hy_record::Key;
 use std::alloc::Global;
@@ -61,6 +61,24 @@ pub(crate) fn settings_of(
         }
     }
     Ok(settings)
+}
+
+/// The first try of each operation.
+pub(crate) fn tryings_of(alloc: Global, points: &[Point]) -> Result<BTreeMap<u32, Trying>, NoMemory>
+    ensures { IfOk result (λ tryings. AreFirsts trying_at points.now tryings.entries) }
+{
+    let mut tryings = BTreeMap::new(alloc);
+    for (place, point) in points.iter().enumerate() {
+        if let Point::Try { op, stamp, found } = point {
+            let trying = Trying {
+                place,
+                stamp: *stamp,
+                found: *found,
+            };
+            keep_first(&mut tryings, *op, trying)?;
+        }
+    }
+    Ok(tryings)
 }
 
 /// The place of the return of each operation.

@@ -10,20 +10,23 @@ ghost use Rattle.hy_points.specs.Index.{
   peaks_under,
   raised,
 };
-ghost use Rattle.hy_points.specs.Lookups.{asking, setting, has_ended};
+ghost use Rattle.hy_points.specs.Lookups.{asking, setting, trying, has_ended};
 ghost use Rattle.hy_points.specs.Marks.{
   operation_mark,
   write_mark,
   read_mark,
   mark_before,
   overwriting,
+  swap_mark,
+  tried_mark,
+  unexpected,
 };
 
-use crate::firsts::{askings_of, endings_of, keys_of, settings_of};
+use crate::firsts::{askings_of, endings_of, keys_of, settings_of, tryings_of};
 use crate::mark::Mark;
 use crate::peaks::{Peak, first_above, raise};
 use crate::point::{ActKind, Point};
-use crate::telling::{Asking, Setting};
+use crate::telling::{Asking, Setting, Trying};
 use hy_base::NoMemory;
 use hy_record::{Key, Stamp};
 use std::alloc::Global;
@@ -36,6 +39,7 @@ pub(crate) struct LogIndex<'a> {
     points: &'a [Point],
     askings: BTreeMap<u32, Asking>,
     settings: BTreeMap<u32, Setting>,
+    tryings: BTreeMap<u32, Trying>,
     endings: BTreeMap<u32, usize>,
     peaks: BTreeMap<Key, Vec<Peak>>,
 }
@@ -50,7 +54,7 @@ impl<'a> Model for LogIndex<'a> {
     ghost view = { λ index. index.points.now };
 
     ghost invariant = { λ index. IsIndex index.points.now index.askings.entries
-        index.settings.entries index.endings.entries index.peaks.entries };
+        index.settings.entries index.tryings.entries index.endings.entries index.peaks.entries };
 }
 
 impl<'a> LogIndex<'a> {
@@ -63,6 +67,7 @@ impl<'a> LogIndex<'a> {
             points,
             askings: askings_of(alloc, points)?,
             settings: settings_of(alloc, points)?,
+            tryings: tryings_of(alloc, points)?,
             endings: endings_of(alloc, points)?,
             peaks: peaks_of(alloc, points, &keys)?,
         })
@@ -82,7 +87,7 @@ impl<'a> LogIndex<'a> {
         match act {
             ActKind::Get => read_mark(op, self.has_ended(op), self.asking(op)),
             ActKind::Put | ActKind::Delete => self.write_mark(key, op),
-            ActKind::Swap(_) => None,
+            ActKind::Swap(expected) => self.swap_mark(op, &expected),
         }
     }
 
@@ -100,6 +105,14 @@ impl<'a> LogIndex<'a> {
         ensures { result ≡ setting self.now op }
     {
         self.settings.get(&op).copied()
+    }
+
+    /// The first try of the operation.
+    #[tactic(auto, unfolding(crate::specs::Lookups::trying))]
+    fn trying(&self, op: u32) -> Option<Trying>
+        ensures { result ≡ trying self.now op }
+    {
+        self.tryings.get(&op).copied()
     }
 
     /// Whether the operation returned.
@@ -122,6 +135,21 @@ impl<'a> LogIndex<'a> {
             return None;
         }
         Some(mark_before(self.overwriting(key, &set.stamp), set.stamp, op))
+    }
+
+    /// The mark of a swap.
+    fn swap_mark(&self, op: u32, expected: &Stamp) -> Option<Mark>
+        ensures { result ≡ swap_mark (has_ended self.now op) expected.now op (asking self.now op)
+            (trying self.now op) }
+    {
+        match self.trying(op) {
+            Some(tried) => tried_mark(op, self.has_ended(op), expected, &tried),
+            None => read_mark(
+                op,
+                self.has_ended(op),
+                unexpected(expected, self.asking(op)),
+            ),
+        }
     }
 
     /// The place of the first applied writing of the key with a greater timestamp.
@@ -161,6 +189,31 @@ fn mark_before(place: Option<usize>, stamp: Stamp, op: u32) -> Mark
         reads: false,
         op,
     }
+}
+
+/// The mark of a swap that tried: where that was applied, or where it returned.
+fn tried_mark(op: u32, ended: bool, expected: &Stamp, tried: &Trying) -> Option<Mark>
+    ensures { result ≡ tried_mark ended expected.now op tried.now }
+{
+    if expected.is_same(&tried.found) {
+        return Some(mark_at(tried.place, tried.stamp, op));
+    }
+    let found = Asking {
+        place: tried.place,
+        found: tried.found,
+    };
+    read_mark(op, ended, Some(found))
+}
+
+/// What a swap found first, where it does not expect that.
+fn unexpected(expected: &Stamp, asking: Option<Asking>) -> Option<Asking>
+    ensures { result ≡ unexpected expected.now asking }
+{
+    let ask = asking?;
+    if expected.is_same(&ask.found) {
+        return None;
+    }
+    Some(ask)
 }
 
 /// The mark of a read, where it returned.

@@ -36,6 +36,13 @@ pub enum Point {
         stamp: Stamp,
         applied: bool,
     },
+    /// It tries to write a record of this timestamp, and finds that timestamp at its key: it is
+    /// applied where a swap finds what it expects.
+    Try {
+        op: u32,
+        stamp: Stamp,
+        found: Stamp,
+    },
     /// It returns.
     End {
         op: u32,

@@ -60,6 +60,19 @@ fn get(rt: &impl Abort, op: u32, client: u32) -> Point {
     begin(rt, op, client, ActKind::Get)
 }
 
+/// The client begins a swap that expects this timestamp.
+fn swap(rt: &impl Abort, op: u32, client: u32, sn: u32, cid: u32) -> Point {
+    let expected = stamp(rt, sn, cid);
+    begin(rt, op, client, ActKind::Swap(expected))
+}
+
+/// It tries to write the first timestamp, and finds the second.
+fn tries(rt: &impl Abort, op: u32, own: (u32, u32), found: (u32, u32)) -> Point {
+    let found = stamp(rt, found.0, found.1);
+    let stamp = stamp(rt, own.0, own.1);
+    Point::Try { op, stamp, found }
+}
+
 fn ask(rt: &impl Abort, op: u32, sn: u32, cid: u32) -> Point {
     let found = stamp(rt, sn, cid);
     Point::Ask { op, found }
@@ -220,6 +233,40 @@ fn pending_operations_without_effect_are_not_listed(rt: HostRuntime) {
         ask(&rt, 4, 1, 2),
     ];
     has_order(&rt, rt.alloc(), points.as_slice(), [2].as_slice());
+}
+
+/// Of swaps that expect (0, 0), one is applied, one refused at its try, and one finds (1, 1) first;
+/// then one that expects (1, 1) is applied, and one refused, and neither returns.
+#[test]
+fn swaps_stand_where_they_find_the_record(rt: HostRuntime) {
+    let points = [
+        swap(&rt, 1, 1, 0, 0),
+        swap(&rt, 2, 2, 0, 0),
+        ask(&rt, 1, 0, 0),
+        ask(&rt, 2, 0, 0),
+        tries(&rt, 1, (1, 1), (0, 0)),
+        tries(&rt, 2, (1, 2), (1, 1)),
+        end(2),
+        end(1),
+        swap(&rt, 3, 3, 0, 0),
+        swap(&rt, 4, 4, 1, 1),
+        swap(&rt, 5, 5, 1, 1),
+        ask(&rt, 4, 1, 1),
+        ask(&rt, 5, 1, 1),
+        ask(&rt, 3, 1, 1),
+        end(3),
+        tries(&rt, 4, (2, 4), (1, 1)),
+        tries(&rt, 5, (2, 5), (2, 4)),
+        get(&rt, 6, 6),
+        ask(&rt, 6, 2, 4),
+        end(6),
+    ];
+    has_order(
+        &rt,
+        rt.alloc(),
+        points.as_slice(),
+        [1, 2, 3, 4, 6].as_slice(),
+    );
 }
 
 #[test]

@@ -1,4 +1,15 @@
-//! What every text of the store stands on: lines, words, the slots of a line, and the printed forms of numbers and values.
+//! What every text of the store stands on: lines, words, the slots of a line, and the printed forms of numbers,
+//! keys, values, actions, timestamps, phases and sets of clouds.
+//!
+//! A `Cursor` goes through the lines of a text, `Words` through those of a line.
+//!
+//!     let key = read_key(word)?;
+//!
+//! Definitions: `specs/`, one file a kind of word, after `docs/FORMATS.md`.
+//!
+//! Proved: each reader of a word answers what its slot says, and each writer adds the printed form. The lines
+//! of a kind are read to the first line of another kind, or to the first that is at fault (`kind.rt`,
+//! `read_lines`, `read_line`).
 #![tactic(auto)]
 
 mod action;

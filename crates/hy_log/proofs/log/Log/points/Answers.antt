@@ -14,10 +14,10 @@ returns-clause-points c =
     ∙ told-points p t log.posts.items log.starts.items log.courses log.steps c.in_ok-moments.moments.items trace keeps c.in_ok-moments.ensures
 
 pub returns-clause-atomic : goal.returns-clause-atomic
-returns-clause-atomic c = λ p t trace none keeps. subst IsAtomicLog (sym (returns-clause-points c p t trace keeps)) (points-atomic p t trace none)
+returns-clause-atomic c = λ p t trace keeps. subst IsAtomicLog (sym (returns-clause-points c p t trace keeps)) (points-atomic p t trace)
 
 pub returns-clause-once : goal.returns-clause-once
-returns-clause-once c = λ p t trace none keeps. subst AsksOnce (sym (returns-clause-points c p t trace keeps)) (points-once p t trace none)
+returns-clause-once c = λ p t trace keeps. subst AsksOnce (sym (returns-clause-points c p t trace keeps)) (points-once p t trace)
 
 pub returns-clause-order : goal.returns-clause-order
-returns-clause-order c = λ p t trace none keeps. subst (OrdersRun p t) (sym (returns-clause-points c p t trace keeps)) (orders-run p t trace none)
+returns-clause-order c = λ p t trace keeps. subst (OrdersRun p t) (sym (returns-clause-points c p t trace keeps)) (orders-run p t trace)
