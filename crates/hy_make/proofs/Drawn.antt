@@ -45,9 +45,9 @@ unfolding action_drawn
 action-text number key byte is plain small =
     let kind : not (is_cell key) ≡ true = ap not plain in
     either IsTextRequest (nat_le number 2) (Put key (byte ∷ [])) _
-    ((record { key = is; kind = kind }, record { short = lit≤ tt; bytes = one_byte byte small }), refl)
-    (either IsTextRequest (nat_le number 5) (Get key) _ (record { key = is; kind = refl }, refl)
-    (either IsTextRequest (number == 6) (Delete key) (Collect key) (record { key = is; kind = kind }, refl) (record { key = is; kind = refl }, refl)))
+    (record { key = is; kind = kind }, record { short = lit≤ tt; bytes = one_byte byte small })
+    (either IsTextRequest (nat_le number 5) (Get key) _ (record { key = is; kind = refl })
+    (either IsTextRequest (number == 6) (Delete key) (Collect key) (record { key = is; kind = kind }) (record { key = is; kind = refl })))
 
 say-text : (number : ℕ) → IsTextSay (say_drawn number)
 unfolding say_drawn

@@ -13,13 +13,13 @@ use Rattle.hy_base.proofs.Results.{bind_ok, ok_is}
 use Rattle.hy_record.specs.Stamp.{Timestamp}
 use Rattle.hy_record.specs.declared.action.Action.{Action}
 use Rattle.hy_record.specs.declared.cloud.CloudSay.{CloudSay}
-use Rattle.hy_text.specs.Action.{action_words, IsTextAction, action_from}
-use Rattle.hy_text.specs.declared.action.Verbs.TheVariants.{WithoutSwaps}
+use Rattle.hy_text.specs.Action.{action_words, action_from}
+use Rattle.hy_text.specs.declared.action.Verbs.TheVariants.{All}
 use Rattle.hy_text.specs.Line.{first_word, later_words, is_word, is_row}
 use Rattle.hy_text.specs.Slot.{number_of, key_word, end_of}
 use Rattle.hy_text.specs.Stamp.{stamp_words, stamp_from}
 use Rattle.hy_text.specs.Table.{value_named}
-use Rattle.hy_text.proofs.Groups.{number_first, key_first, stamp_takes, stamp_again, stamp_is_row, action_takes, action_has, action_again, action_is_row}
+use Rattle.hy_text.proofs.Groups.{number_first, key_first, stamp_takes, stamp_again, stamp_is_row, action_takes, action_again, action_is_row}
 use Rattle.hy_text.proofs.Keys.{key_again}
 use Rattle.hy_text.proofs.Numbers.{number_again}
 use Rattle.hy_text.proofs.Printed.{is_word-decimal, is_word-key}
@@ -67,14 +67,13 @@ request_takes : (words : List (List ℕ)) (read : ℕ × Action) → request_of_
 unfolding request_of_words
 request_takes words read e =
     let client = bind_ok (number_of 1 MAX_SESSIONS (first_word words)) _ read e in
-    let action = bind_ok (action_from WithoutSwaps MAX_SESSIONS (later_words words)) (λ action. end_of action.1 >>= λ _. Ok (client.0, action.0)) read client.2 in
+    let action = bind_ok (action_from All MAX_SESSIONS (later_words words)) (λ action. end_of action.1 >>= λ _. Ok (client.0, action.0)) read client.2 in
     let end = bind_ok (end_of action.0.1) (λ _. Ok (client.0, action.0.0)) read action.2 in
     let n = number_first 1 MAX_SESSIONS words client.0 (omega arith) client.1 in
-    let a = action_takes WithoutSwaps MAX_SESSIONS (later_words words) action.0 (omega arith) action.1 in
-    let has = action_has WithoutSwaps MAX_SESSIONS (later_words words) action.0 (omega arith) action.1 in
+    let a = action_takes All MAX_SESSIONS (later_words words) action.0 (omega arith) action.1 in
     let rest : later_words words ≡ action_words action.0.0 = a.row ∙ ap (λ (ws : List (List ℕ)). action_words action.0.0 ++ ws) (end_takes action.0.1 end.0 end.1) ∙ append-nil (action_words action.0.0) in
     subst (IsRequest words) (ok_is (client.0, action.0.0) read end.2)
-    (record { row = n.row ∙ ap (λ (ws : List (List ℕ)). decimal client.0 ∷ ws) rest; fits = ((n.low_end, n.high_end), (a.fits, has)) })
+    (record { row = n.row ∙ ap (λ (ws : List (List ℕ)). decimal client.0 ∷ ws) rest; fits = ((n.low_end, n.high_end), a.fits) })
 
 allowed : (liar : Bool) (cloud read : ℕ) → cond liar (Ok cloud) (Err BadNumber) ≡ Ok read → (liar ≡ true) × (cloud ≡ read)
 allowed true cloud read e = (refl, ok_is cloud read e)
@@ -201,7 +200,7 @@ number_again_all low high number fits range = rw (number_again low high number (
 request_again : (client : ℕ) (action : Action) → IsTextClient client × IsTextRequest action → request_of_words (decimal client ∷ action_words action) ≡ Ok (client, action)
 unfolding request_of_words
 request_again client action fits =
-    let action_is : action_from WithoutSwaps MAX_SESSIONS (action_words action) ≡ Ok (action, []) = ap (action_from WithoutSwaps MAX_SESSIONS) (sym (append-nil (action_words action))) ∙ action_again WithoutSwaps MAX_SESSIONS action [] (omega arith) fits.1.1 fits.1.0 in
+    let action_is : action_from All MAX_SESSIONS (action_words action) ≡ Ok (action, []) = ap (action_from All MAX_SESSIONS) (sym (append-nil (action_words action))) ∙ action_again All MAX_SESSIONS action [] (omega arith) refl fits.1 in
     rw (number_again 1 MAX_SESSIONS client (omega (arith, fits.0.1)) fits.0.0 fits.0.1, action_is) refl
 
 lie_again : (params : Params) (cloud client op : ℕ) (key : List ℕ) (stamp : Timestamp) (say : CloudSay) → IsParams params → IsTextLie params cloud client op key stamp say
@@ -228,7 +227,7 @@ event_again params (events.Stop client) fits is = rw (number_again_all 1 MAX_SES
 
 words_of_request : (client : ℕ) (action : Action) → IsTextClient client × IsTextRequest action → list_all is_word (decimal client ∷ action_words action) ≡ true
 words_of_request client action fits =
-    let action_is : list_all is_word (action_words action) ≡ true = ap (list_all is_word) (sym (append-nil (action_words action))) ∙ action_is_row MAX_SESSIONS action [] (omega arith) fits.1.0 refl in
+    let action_is : list_all is_word (action_words action) ≡ true = ap (list_all is_word) (sym (append-nil (action_words action))) ∙ action_is_row MAX_SESSIONS action [] (omega arith) fits.1 refl in
     rw (is_word-decimal client (omega (arith, fits.0.1)), action_is) refl
 
 words_of_lie : (params : Params) (cloud client op : ℕ) (key : List ℕ) (stamp : Timestamp) (say : CloudSay) → IsParams params → IsTextLie params cloud client op key stamp say

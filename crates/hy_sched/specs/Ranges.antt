@@ -5,8 +5,7 @@ use Rattle.hy_base.specs.declared.limits.TheConstants.{MAX_COUNT, MAX_EVENTS, MA
 use Rattle.hy_record.specs.Key.{is_key}
 use Rattle.hy_record.specs.Stamp.{Timestamp}
 use Rattle.hy_record.specs.declared.cloud.CloudSay.{CloudSay}
-use Rattle.hy_text.specs.Action.{IsTextAction, action_verb, has_verb}
-use Rattle.hy_text.specs.declared.action.Verbs.TheVariants.{WithoutSwaps}
+use Rattle.hy_text.specs.Action.{IsTextAction}
 use Rattle.hy_record.specs.declared.action.Action.{Action}
 use Rattle.hy_text.specs.Stamp.{IsStampWithin}
 use Rattle.hy_sched.specs.declared.event.Event.{Event}
@@ -48,9 +47,9 @@ pub record IsTextLie (params : Params) (cloud client op : ℕ) (key : List ℕ) 
   pub version : IsStampWithin 1 MAX_SESSIONS stamp
   pub answer : IsTextSay say
 
--- what is asked for is in range, and no swap: a schedule has no word for one yet
+-- what is asked for is in range: the client of a timestamp that a swap expects is one that can join, or 0
 abbrev pub IsTextRequest : Action → Type 0
-IsTextRequest action = IsTextAction MAX_SESSIONS action × (has_verb WithoutSwaps (action_verb action) ≡ true)
+IsTextRequest action = IsTextAction MAX_SESSIONS action
 
 -- what the event carries is in range, in a store of these parameters
 abbrev pub IsTextEvent : Params → Event → Type 0

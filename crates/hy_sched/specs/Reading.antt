@@ -9,7 +9,7 @@ use Rattle.hy_base.specs.Results.{◌>>=◌}
 use Rattle.hy_base.specs.Shape.{cloud_count}
 use Rattle.hy_record.specs.declared.action.Action.{Action}
 use Rattle.hy_text.specs.Action.{action_from}
-use Rattle.hy_text.specs.declared.action.Verbs.TheVariants.{WithoutSwaps}
+use Rattle.hy_text.specs.declared.action.Verbs.TheVariants.{All}
 use Rattle.hy_text.specs.Clouds.{cloud_set_of}
 use Rattle.hy_text.specs.Kind.{Kind, items_from, item_from}
 use Rattle.hy_text.specs.Line.{lines_of, first_word, later_words}
@@ -78,7 +78,7 @@ number_of_words low high words =
 unfoldable pub request_of_words : List (List ℕ) → Result (ℕ × Action) Cause
 request_of_words words =
     number_of 1 MAX_SESSIONS (first_word words) >>= λ client.
-    action_from WithoutSwaps MAX_SESSIONS (later_words words) >>= λ action.
+    action_from All MAX_SESSIONS (later_words words) >>= λ action.
     end_of action.1 >>= λ _.
     Ok (client, action.0)
 

@@ -196,7 +196,7 @@ fn read_request(alloc: Global, words: &mut Words) -> Result<(u32, Action), LineE
     ensures { Gives result (request_of_words words.old) }
 {
     let client = read_u32(words.next_word(), 1, MAX_SESSIONS)?;
-    let action = read_action(alloc, words, Verbs::WithoutSwaps, MAX_SESSIONS)?;
+    let action = read_action(alloc, words, Verbs::All, MAX_SESSIONS)?;
     words.end()?;
     Ok((client, action))
 }

@@ -7,4 +7,5 @@ pub mod Promising
 pub mod Holding
 pub mod Progressing
 pub mod PutBytes
+pub mod Listed
 pub mod Reports

@@ -10,9 +10,7 @@ use Rattle.hy_record.specs.declared.action.Action.{Action}
 use Rattle.hy_record.specs.declared.action.Action.TheVariants as asked
 use Rattle.hy_record.specs.declared.turn.Cue.{Cue}
 use Rattle.hy_record.specs.declared.turn.Cue.TheVariants as cues
-use Rattle.hy_text.specs.Action.{IsTextAction, action_verb, has_verb}
-use Rattle.hy_text.specs.declared.action.Verbs.TheVariants.{WithoutSwaps}
-use Rattle.hy_client.specs.Sizes.{is_swap}
+use Rattle.hy_text.specs.Action.{IsTextAction}
 use Rattle.hy_sched.specs.declared.params.Params.{Params as StoreParams}
 use Rattle.hy_sched.specs.declared.event.Event.{Event}
 use Rattle.hy_sched.specs.declared.event.Event.TheVariants as events
@@ -159,8 +157,8 @@ action-bytes last (asked.Collect key) is = tt
 action-bytes last (asked.Swap key expected value) is = elements value is.2.bytes
 
 asks-bytes : (params : StoreParams) (event : Event) → IsTextEvent params event → AsksWithBytes (first_step event)
-asks-bytes params (events.Do c a) is = action-bytes MAX_SESSIONS a is.1.0
-asks-bytes params (events.Invoke c a) is = action-bytes MAX_SESSIONS a is.1.0
+asks-bytes params (events.Do c a) is = action-bytes MAX_SESSIONS a is.1
+asks-bytes params (events.Invoke c a) is = action-bytes MAX_SESSIONS a is.1
 asks-bytes params events.Join is = tt
 asks-bytes params (events.Give number) is = tt
 asks-bytes params (events.Lie cloud c op key stamp say) is = tt
@@ -183,17 +181,9 @@ small-action last (asked.Delete key) is = omega arith
 small-action last (asked.Collect key) is = omega arith
 small-action last (asked.Swap key expected value) is = is.2.short
 
--- a schedule has no word for a swap
-unswapped : (a : Action) → has_verb WithoutSwaps (action_verb a) ≡ true → is_swap a ≡ false
-unswapped (asked.Put key value) has = refl
-unswapped (asked.Get key) has = refl
-unswapped (asked.Delete key) has = refl
-unswapped (asked.Collect key) has = refl
-unswapped (asked.Swap key expected value) has = absurd cc
-
 pub small-event : (params : StoreParams) (event : Event) → IsTextEvent params event → HasTextValue event
-small-event params (events.Do c a) is = (small-action MAX_SESSIONS a is.1.0, unswapped a is.1.1)
-small-event params (events.Invoke c a) is = (small-action MAX_SESSIONS a is.1.0, unswapped a is.1.1)
+small-event params (events.Do c a) is = small-action MAX_SESSIONS a is.1
+small-event params (events.Invoke c a) is = small-action MAX_SESSIONS a is.1
 small-event params events.Join is = tt
 small-event params (events.Give number) is = tt
 small-event params (events.Lie cloud c op key stamp say) is = tt

@@ -1,5 +1,5 @@
 -- What the events of a schedule are to a trace.
-use Rattle.std.specs.Prelude.{◌≡◌, ℕ, ◌≤◌, Bool, false, ◌||◌, nat_le, List, [], ◌∷◌}
+use Rattle.std.specs.Prelude.{ℕ, ◌≤◌, Bool, ◌||◌, nat_le, List, [], ◌∷◌}
 use Rattle.hy_base.specs.declared.limits.TheConstants.{MAX_TEXT_VALUE}
 use Rattle.hy_base.specs.Shape.{cloud_count}
 use Rattle.hy_trace.specs.declared.step.Step.{Step}
@@ -14,7 +14,6 @@ use Rattle.hy_sched.specs.Params.{is_liar}
 use Rattle.hy_order.specs.declared.report.Report.{Report}
 use Rattle.hy_trace.specs.Schedule.{trace_of}
 use Rattle.hy_trace.specs.Report.{report_of}
-use Rattle.hy_client.specs.Sizes.{is_swap}
 use Rattle.hy_record.specs.declared.action.Action.{Action}
 use Rattle.hy_world.specs.Seats.{value_size}
 
@@ -58,9 +57,9 @@ unfoldable pub steps_of : Params → List Event → List Step → List Step
 steps_of p [] before = before
 steps_of p (event ∷ later) before = steps_of p later (steps_with p event before)
 
--- a schedule can write what is asked for: its value has no more bytes than that, and it is no swap
+-- a schedule can write what is asked for: its value has no more bytes than that
 abbrev pub IsWritable : Action → Type 0
-IsWritable action = (value_size action ≤ MAX_TEXT_VALUE) × (is_swap action ≡ false)
+IsWritable action = value_size action ≤ MAX_TEXT_VALUE
 
 -- a schedule can write what the event asks for
 abbrev pub HasTextValue : Event → Type 0
@@ -72,9 +71,13 @@ HasTextValue (events.Lie cloud client op key stamp say) = Unit {0}
 HasTextValue (events.Tick client) = Unit {0}
 HasTextValue (events.Stop client) = Unit {0}
 
+-- the steps of a schedule, the newest first
+abbrev pub steps_of_schedule : Schedule → List Step
+steps_of_schedule schedule = steps_of (params_of schedule.params) schedule.events []
+
 -- the trace of a schedule
 abbrev pub trace_of_schedule : Schedule → List Deed
-trace_of_schedule schedule = trace_of (params_of schedule.params) (steps_of (params_of schedule.params) schedule.events [])
+trace_of_schedule schedule = trace_of (params_of schedule.params) (steps_of_schedule schedule)
 
 -- the report of a schedule
 abbrev pub report_of_schedule : Schedule → Report

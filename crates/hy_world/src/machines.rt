@@ -10,7 +10,7 @@ ghost use Rattle.hy_trace.specs.Trace.{IsTrace};
 ghost use Rattle.hy_record.specs.declared.message.MetaAsk.{MetaAsk};
 ghost use Rattle.hy_meta.specs.Service.{record_stamp};
 ghost use Rattle.hy_world.specs.Schedules.{params_of};
-ghost use Rattle.hy_log.specs.Effects.{post_of, updated_by, answered_swap, is_swapped};
+ghost use Rattle.hy_log.specs.Effects.{post_of, updated_by, answered_swap, found_by, is_swapped};
 ghost use Rattle.hy_meta.specs.Meta.{service_answers};
 ghost use Rattle.hy_log.specs.Kept.{post_in};
 ghost use Rattle.hy_trace.specs.Held.{held_of, held_with};
@@ -127,6 +127,7 @@ impl<M: Meta + Drop> Machines<M> {
                     client: *client,
                     op: *op,
                     is_applied: held.is_below(&rec.stamp()),
+                    found: held,
                 })
             }
             MetaAsk::Read { .. } => None,
@@ -156,22 +157,38 @@ fn updated_by(ask: &MetaAsk, attempted: Option<Updated>, says: &[MetaSay]) -> Op
         says.now ≡ service_answers asks ask.now → result ≡ updated_by ask.now asks }
 {
     match ask {
-        MetaAsk::Swap { client, op, .. } => answered_swap(*client, *op, says),
+        MetaAsk::Swap {
+            client,
+            op,
+            expected,
+            ..
+        } => answered_swap(*client, *op, expected, says),
         _ => attempted,
     }
 }
 
 /// A swap that is answered so.
-fn answered_swap(client: u32, op: u32, says: &[MetaSay]) -> Option<Updated>
-    ensures { result ≡ answered_swap client op says.now }
+fn answered_swap(client: u32, op: u32, expected: &Stamp, says: &[MetaSay]) -> Option<Updated>
+    ensures { result ≡ answered_swap client op expected.now says.now }
 {
     match says.first() {
         Some(say) => Some(Updated {
             client,
             op,
             is_applied: is_swapped(say),
+            found: found_by(expected, say),
         }),
         None => None,
+    }
+}
+
+/// What a swap that expects this timestamp found, by the answer to it.
+fn found_by(expected: &Stamp, say: &MetaSay) -> Stamp
+    ensures { result ≡ found_by expected.now say.now }
+{
+    match say {
+        MetaSay::Changed { stamp, .. } => *stamp,
+        _ => *expected,
     }
 }
 

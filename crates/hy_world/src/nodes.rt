@@ -34,7 +34,6 @@ impl Nodes {
     ghost use Rattle.hy_trace.specs.Schedule.{hand, delivery, deed_of};
     ghost use Rattle.hy_cloud.specs.Objects.{StandsForWishes};
     ghost use Rattle.hy_world.specs.Schedules.{is_liar_of, params_of};
-    ghost use Rattle.hy_client.specs.Sizes.{is_swap};
     ghost use Rattle.hy_world.specs.Seats.{StandsForSeat, value_size};
     ghost use Rattle.hy_world.specs.Nodes.{Does, NodesStand, HasBegunIn};
     ghost use Rattle.hy_world.specs.declared.seat.Seat.{Seat};
@@ -128,8 +127,7 @@ impl Nodes {
         client: u32,
         action: &Action,
     ) -> Result<Effects, NoMemory>
-        requires size { value_size action.now ≤ MAX_VALUE }
-        requires no_swap { is_swap action.now ≡ false }
+        requires { value_size action.now ≤ MAX_VALUE }
         ensures { Does (λ p t.
             deed_of p (steps.Invoke client action.now) t) self.old self.new result }
     {

@@ -6,7 +6,8 @@ ghost use Rattle.hy_record.specs.Clouds.{clouds_of};
 ghost use Rattle.hy_sched.specs.Ranges.{IsSchedule};
 ghost use Rattle.hy_trace.specs.Hashed.{IsCollisionFree};
 ghost use Rattle.hy_trace.specs.Held.{HasLiars};
-ghost use Rattle.hy_world.specs.Schedules.{params_of, trace_of_schedule, report_of_schedule};
+ghost use Rattle.hy_world.specs.Promises.{KeepsPromises, ListsCurrent};
+ghost use Rattle.hy_world.specs.Schedules.{params_of, steps_of_schedule, trace_of_schedule, report_of_schedule};
 
 use crate::world::WorldOver;
 use hy_base::NoMemory;
@@ -19,8 +20,8 @@ use std::alloc::Global;
 /// joined.
 ///
 /// Where no two strings that were hashed collide, the report is linearizable, with any number of
-/// Byzantine clouds. With at most f of them,
-/// each version that it tells of is held by at least k honest clouds.
+/// Byzantine clouds. It tells of each current version that has a value; with at most f Byzantine
+/// clouds, each is held by at least k honest ones. What a world promises holds after each step.
 pub fn replay(alloc: Global, schedule: &Schedule) -> Result<Report, NoMemory>
     requires { IsSchedule schedule.now }
     ensures report { IfOk result (λ report. report ≡ report_of_schedule schedule.now) }
@@ -30,6 +31,10 @@ pub fn replay(alloc: Global, schedule: &Schedule) -> Result<Report, NoMemory>
     ensures retrievable { IfOk result (λ report.
         HasLiars (params_of schedule.now.params) schedule.now.params.f → All (λ held.
         schedule.now.params.k ≤ length (clouds_of held.clouds)) report.held) }
+    ensures listed { IfOk result (λ report. ListsCurrent (params_of schedule.now.params)
+        (trace_of_schedule schedule.now) report.held) }
+    ensures promises { IfOk result (λ report.
+        KeepsPromises (params_of schedule.now.params) (steps_of_schedule schedule.now)) }
 {
     let service = Service::new(alloc)?;
     let report = replay_over(alloc, schedule, service)?;
@@ -52,6 +57,10 @@ pub fn replay_over<M: Meta + Drop>(
     ensures retrievable { IfOk result (λ report.
         HasLiars (params_of schedule.now.params) schedule.now.params.f → All (λ held.
         schedule.now.params.k ≤ length (clouds_of held.clouds)) report.held) }
+    ensures listed { IfOk result (λ report. ListsCurrent (params_of schedule.now.params)
+        (trace_of_schedule schedule.now) report.held) }
+    ensures promises { IfOk result (λ report.
+        KeepsPromises (params_of schedule.now.params) (steps_of_schedule schedule.now)) }
 {
     let mut world = WorldOver::with(alloc, &schedule.params, service)?;
     for event in schedule.events.items() {

@@ -8,7 +8,6 @@ ghost use Rattle.hy_protocol.specs.Inputs.{has_of};
 ghost use Rattle.hy_protocol.specs.Operations.{key_of, suits};
 ghost use Rattle.hy_protocol.specs.Session.{Session, session_after, session_turn, session_invoked, session_stopped, invoked_sends, is_idle, is_running, session_progress, takes};
 ghost use Rattle.hy_client.specs.Clients.{running_of};
-ghost use Rattle.hy_client.specs.Sizes.{is_swap};
 ghost use Rattle.hy_log.specs.History.{told_progress};
 ghost use Rattle.hy_world.specs.Seats.{StandsForSeat, begun_at, value_size, is_no_memory, heard_by};
 
@@ -40,7 +39,6 @@ impl Seat {
     ) -> Result<Option<Vec<Out>>, NoMemory>
         requires room { begun_at self.old < 4294967295 }
         requires size { value_size action.now ≤ MAX_VALUE }
-        requires no_swap { is_swap action.now ≡ false }
         ensures idle { IfOk result (λ sent. (s : Session) → StandsForSeat self.old s →
             is_some sent ≡ (is_idle s && suits action.now)) }
         ensures begins { IfOk result (λ sent. MatchOption sent ((s : Session) →

@@ -39,10 +39,10 @@ impl<M: Meta + Drop> WorldOver<M> {
     ghost use Rattle.hy_trace.specs.Held.{HasLiars, held_of};
     ghost use Rattle.hy_trace.specs.History.{history_of};
     ghost use Rattle.hy_trace.specs.Report.{report_of};
-    ghost use Rattle.hy_log.specs.Points.{points_of, HasNoSwaps};
+    ghost use Rattle.hy_log.specs.Points.{points_of};
     ghost use Rattle.hy_log.specs.RunOrders.{OrdersRun};
     ghost use Rattle.hy_points.specs.Atomic.{IsAtomicLog, AsksOnce};
-    ghost use Rattle.hy_world.specs.Promises.{StaysRetrievable, StarvesOnlyOld, RefreshesAtMost, DeletesOnlyOld};
+    ghost use Rattle.hy_world.specs.Promises.{KeepsPromises};
     ghost use Rattle.hy_world.specs.World.{StandsForSteps, StandsForSome, IsBroken, events_taken};
 
     /// A store of these parameters in which nobody joined, with a service that served nothing and
@@ -64,7 +64,7 @@ impl<M: Meta + Drop> WorldOver<M> {
 
     /// An event, which takes one step; a `Do` takes one, and one for each message that it delivers.
     ///
-    /// After want of memory each later event answers that too. The promises hold after each event,
+    /// After want of memory each later event answers that too. The promises hold after each step,
     /// whatever it is.
     pub fn step(&mut self, alloc: Global, event: &Event) -> Result<(), NoMemory>
         requires room { events_taken self.old < MAX_EVENTS }
@@ -75,16 +75,8 @@ impl<M: Meta + Drop> WorldOver<M> {
         ensures events { OnOk result (events_taken self.new ≡ events_taken self.old + 1) }
         ensures err { OnErr result (IsBroken self.new) }
         ensures broken { IsBroken self.old → IsErr result }
-        ensures retrievable { (p : TraceParams) (steps : List Step) →
-            StandsForSteps M.served M.given p steps self.new →
-            StaysRetrievable p (trace_of p steps) }
-        ensures starved { (p : TraceParams) (steps : List Step) →
-            StandsForSteps M.served M.given p steps self.new → StarvesOnlyOld p (trace_of p steps) }
-        ensures refreshes { (p : TraceParams) (steps : List Step) →
-            StandsForSteps M.served M.given p steps self.new →
-            RefreshesAtMost p (trace_of p steps) }
-        ensures deletions { (p : TraceParams) (steps : List Step) →
-            StandsForSteps M.served M.given p steps self.new → DeletesOnlyOld p (trace_of p steps) }
+        ensures promises { (p : TraceParams) (steps : List Step) →
+            StandsForSteps M.served M.given p steps self.new → KeepsPromises p steps }
     {
         self.advance(alloc, event)
     }
@@ -139,21 +131,21 @@ impl<M: Meta + Drop> WorldOver<M> {
         Ok(history)
     }
 
-    /// The moments at which the puts, gets and deletes began, read, wrote and returned, in the order
-    /// of their steps: where no operation is a swap, an atomic log in which no operation reads twice,
-    /// by which the orders are those of the report.
+    /// The moments at which the puts, gets, deletes and swaps began, read, wrote or tried to, and
+    /// returned, in the order of their steps: an atomic log in which no operation reads twice, by
+    /// which the orders are those of the report.
     pub fn points(&self, alloc: Global) -> Result<PointLog, NoMemory>
         ensures points { IfOk result (λ points. (p : TraceParams) (steps : List Step) →
             StandsForSteps M.served M.given p steps self.now →
             points ≡ points_of p (trace_of p steps)) }
         ensures atomic { IfOk result (λ points. (p : TraceParams) (steps : List Step) →
-            StandsForSteps M.served M.given p steps self.now → HasNoSwaps (trace_of p steps) →
+            StandsForSteps M.served M.given p steps self.now →
             IsAtomicLog points) }
         ensures once { IfOk result (λ points. (p : TraceParams) (steps : List Step) →
-            StandsForSteps M.served M.given p steps self.now → HasNoSwaps (trace_of p steps) →
+            StandsForSteps M.served M.given p steps self.now →
             AsksOnce points) }
         ensures order { IfOk result (λ points. (p : TraceParams) (steps : List Step) →
-            StandsForSteps M.served M.given p steps self.now → HasNoSwaps (trace_of p steps) →
+            StandsForSteps M.served M.given p steps self.now →
             OrdersRun p (trace_of p steps) points) }
     {
         let points = self.simulation.log.points(alloc)?;

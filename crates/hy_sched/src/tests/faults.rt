@@ -32,7 +32,7 @@ const BAD_HEADERS: [(&[u8], Cause); 25] = [
 ];
 
 /// Event lines in a store whose clouds 0 and 2 are Byzantine, each with its cause.
-const BAD_EVENTS: [(&[u8], Cause); 60] = [
+const BAD_EVENTS: [(&[u8], Cause); 71] = [
     (b"", Cause::BadWord),
     (b"fly", Cause::BadWord),
     (b" open", Cause::BadWord),
@@ -57,6 +57,17 @@ const BAD_EVENTS: [(&[u8], Cause); 60] = [
     (b"do 1 put a 00 ", Cause::Extra),
     (b"do 1 delete A", Cause::BadKey),
     (b"do 1 collect a 1", Cause::Extra),
+    (b"do 1 put _a 01", Cause::BadKey),
+    (b"do 1 delete _a", Cause::BadKey),
+    (b"do 1 swap", Cause::BadKey),
+    (b"do 1 swap a 0 0 01", Cause::BadKey),
+    (b"do 1 swap _a", Cause::BadNumber),
+    (b"do 1 swap _a 4294967295 0 01", Cause::BadNumber),
+    (b"do 1 swap _a 0", Cause::BadNumber),
+    (b"do 1 swap _a 0 4097 01", Cause::BadNumber),
+    (b"do 1 swap _a 0 0", Cause::BadHex),
+    (b"do 1 swap _a 0 0 01 ", Cause::Extra),
+    (b"invoke 1 swap _a 0 01 01", Cause::BadNumber),
     (b"invoke", Cause::BadNumber),
     (b"invoke 4097 get a", Cause::BadNumber),
     (b"invoke 1 open", Cause::BadWord),
@@ -144,6 +155,9 @@ fn first_bad_word_is_the_cause(rt: HostRuntime) {
         (b"do 1 put A 6 x".as_slice(), Cause::BadKey),
         (b"do 1 put a 6 x".as_slice(), Cause::BadHex),
         (b"do 1 put a 06 x".as_slice(), Cause::Extra),
+        (b"do 1 swap a 01 0 6 x".as_slice(), Cause::BadKey),
+        (b"do 1 swap _a 01 0 6 x".as_slice(), Cause::BadNumber),
+        (b"do 1 swap _a 1 0 6 x".as_slice(), Cause::BadHex),
         (b"lie 1 0 0 A 0 0 held x".as_slice(), Cause::BadNumber),
         (b"lie 0 1 1 A 0 0 held x".as_slice(), Cause::BadKey),
         (b"lie 0 1 1 a 1 0 held x".as_slice(), Cause::BadNumber),

@@ -15,6 +15,7 @@ fn values_have_a_limit(rt: HostRuntime) {
     for line in [
         b"do 1 put a ".as_slice(),
         b"invoke 1 put a ".as_slice(),
+        b"invoke 1 swap _a 0 0 ".as_slice(),
         b"lie 2 1 1 a 1 1 body ".as_slice(),
     ] {
         let longest = with_value(&rt, rt.alloc(), line, size, b"\n");

@@ -5,7 +5,7 @@ use hy_record::{Action, CloudSay, Key, Stamp};
 
 /// Schedules by what each shows: operations that run at once and step by step, forged answers,
 /// crashes, collections, and coded values.
-const WORKED: [(&str, &[u8]); 18] = [
+const WORKED: [(&str, &[u8]); 21] = [
     (
         "put then get",
         b"hybris 1 f 0 k 1 liars -\nopen\ndo 1 put a 616263\ndo 1 get a\n",
@@ -90,6 +90,22 @@ const WORKED: [(&str, &[u8]); 18] = [
         b"hybris 1 f 1 k 1 liars 0,1,2\nopen\ninvoke 1 put a 01\ngive 1\ngive 2\n\
         lie 0 1 1 a 1 1 stored\nlie 1 1 1 a 1 1 stored\ngive 5\ngive 6\ndo 1 get a\n",
     ),
+    (
+        "swap sequence",
+        b"hybris 1 f 0 k 1 liars -\nopen\nopen\ndo 1 swap _a 0 0 01\ndo 2 swap _a 0 0 02\n\
+        do 2 swap _a 1 1 03\ndo 1 get _a\n",
+    ),
+    (
+        "repeated swap acts once",
+        b"hybris 1 f 0 k 1 liars -\nopen\nopen\ninvoke 1 swap _a 0 0 01\ngive 1\ngive 2\n\
+        give 3\ngive 4\ngive 5\ndo 2 swap _a 1 1 02\ngive 5\ngive 13\n",
+    ),
+    (
+        "competing swaps",
+        b"hybris 1 f 0 k 1 liars -\nopen\nopen\ninvoke 1 swap _a 0 0 01\n\
+        invoke 2 swap _a 0 0 02\ngive 1\ngive 2\ngive 3\ngive 4\ngive 5\ngive 6\ngive 7\n\
+        give 8\ngive 9\ngive 10\ngive 11\ngive 12\n",
+    ),
 ];
 
 /// Schedules whose words are at the ends of their ranges.
@@ -99,7 +115,8 @@ const AT_EDGES: [(&str, &[u8]); 2] = [
         b"hybris 1 f 0 k 4 liars 0,1,2,3\ninvoke 1 get a\ninvoke 4096 delete k-1_.z\ngive 1\n\
         give 4294967295\nlie 0 1 1 a 1 1 conflict\n\
         lie 3 4096 4294967295 zz 4294967294 4096 body 00ff\ntick 1\ntick 4096\nstop 1\n\
-        stop 4096\ndo 1 collect 0\n",
+        stop 4096\ndo 1 collect 0\ninvoke 1 swap _ 0 0 -\n\
+        do 4096 swap _9.z 4294967294 4096 00ff\n",
     ),
     (
         "all answers",
@@ -205,6 +222,26 @@ fn requests_are_told(rt: HostRuntime) {
     assert_eq!(rt; collect, Event::Do { client: 7, action });
     let action = Action::Delete { key };
     assert_eq!(rt; delete, Event::Invoke { client: 8, action });
+}
+
+#[test]
+fn swap_is_told_with_the_timestamp_that_it_expects(rt: HostRuntime) {
+    let swap = only_event(&rt, rt.alloc(), b"invoke 8 swap _a 3 2 01\n");
+    let Event::Invoke { client, action } = swap else {
+        panic!(rt; "no request");
+    };
+    let Action::Swap {
+        key,
+        expected,
+        value,
+    } = action
+    else {
+        panic!(rt; "no swap");
+    };
+    assert_eq!(rt; client, 8);
+    assert_eq!(rt; key.bytes(), b"_a".as_slice());
+    assert_eq!(rt; (expected.sn(), expected.cid()), (3, 2));
+    assert_eq!(rt; value.bytes(), [1].as_slice());
 }
 
 #[test]

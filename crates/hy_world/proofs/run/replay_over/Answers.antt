@@ -6,8 +6,13 @@ use Rattle.hy_order.specs.declared.report.Report.{Report}
 use Rattle.hy_order.specs.Linearization.{IsReportLinearizable}
 use Rattle.hy_sched.specs.declared.event.Event.{Event}
 use Rattle.hy_trace.specs.declared.step.Step.{Step}
+use Rattle.hy_trace.specs.Schedule.{trace_of}
 use Rattle.hy_world.specs.Schedules.{params_of, steps_of, report_of_schedule}
 use Rattle.hy_world.specs.World.{StandsForSteps}
+use Rattle.hy_trace.proofs.Steps.{schedule-trace}
+use Rattle.hy_world.specs.Promises.{ListsCurrent}
+use Rattle.hy_world.proofs.Listed.{lists-current}
+use Rattle.hy_world.proofs.Promising.{keeps-promises}
 use Rattle.hy_world.proofs.Reports.{steps-more, steps-all, no-steps, text-event, schedule-linearizable, schedule-retrievable}
 use Rattle.hy_world.proofs.run.replay_over.Goals as goal
 
@@ -59,4 +64,6 @@ returns g c =
       report = is;
       linearizable = λ free. subst IsReportLinearizable (sym is) (schedule-linearizable schedule c.requires.schedule free);
       retrievable = λ liars. subst (λ (r : Report). All (λ held. schedule.params.k ≤ length (clouds_of held.clouds)) r.held) (sym is) (schedule-retrievable schedule c.requires.schedule liars);
+      listed = subst (λ (r : Report). ListsCurrent p (trace_of p (steps_of p schedule.events [])) r.held) (sym is) (lists-current p (trace_of p (steps_of p schedule.events [])) (schedule-trace p (steps_of p schedule.events [])));
+      promises = keeps-promises p (steps_of p schedule.events []) c.requires.schedule.params.shape;
     }

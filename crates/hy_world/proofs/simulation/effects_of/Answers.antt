@@ -10,13 +10,10 @@ use Rattle.hy_world.proofs.Doing.{first-same, first-does, first-by}
 use Rattle.hy_world.proofs.simulation.effects_of.Goals as goal
 
 small : (a : Action) → IsWritable a → value_size a ≤ MAX_VALUE
-small a is = omega (arith, is.0)
+small a is = omega (arith, is)
 
-pub invoke-requires-clause-size : goal.invoke-requires-clause-size
-invoke-requires-clause-size g c = small _ (subst HasTextValue c.in-Do.is c.requires)
-
-pub invoke-requires-clause-no_swap : goal.invoke-requires-clause-no_swap
-invoke-requires-clause-no_swap g c = (subst HasTextValue c.in-Do.is c.requires).1
+pub invoke-requires : goal.invoke-requires
+invoke-requires g c = small _ (subst HasTextValue c.in-Do.is c.requires)
 
 pub returns-in-Join : goal.returns-in-Join
 returns-in-Join g c = first-does g.row.M.Denot g.M.Meta.served g.M.Meta.given c.args.log.now c.args.event.now _ c.args.machines.now c.join.new.self c.join.result (ap first_step c.in-Join.is) c.join.ensures
