@@ -1,5 +1,5 @@
 -- Lemmas on the loop over arrivals, and on its ends.
-use Rattle.std.proofs.Common.{◌≡◌, ◌+◌, ◌-◌, ◌<◌, ℕ, suc, Bool, true, false, List, [], ◌∷◌, ◌++◌, Option, Some, None, Result, Ok, Err, refl, sym, ap, subst, ◌∙◌, arith, inl, inr}
+use Rattle.std.proofs.Common.{◌⊎◌, ◌≡◌, ◌+◌, ◌-◌, ◌<◌, ℕ, suc, Bool, true, false, List, [], ◌∷◌, ◌++◌, Option, Some, None, Result, Ok, Err, refl, sym, ap, subst, ◌∙◌, arith, inl, inr}
 use Rattle.hy_base.specs.declared.arrival.Arrived.{Arrived}
 use Rattle.hy_base.specs.Moves.{Move, arrived, called, dial, send, close}
 use Rattle.hy_base.specs.Net.{Adds, Moves}
@@ -13,10 +13,10 @@ use Rattle.hy_drive.specs.declared.driver.Driver.{Driver}
 use Rattle.hy_drive.specs.declared.fault.DriveFault.{DriveFault}
 use Rattle.hy_drive.specs.declared.fault.DriveFault.TheVariants.{NetFault, SessionsFull, TooLarge, NotYet, NoMemory}
 use Rattle.hy_drive.specs.declared.job.Job.{Job}
-use Rattle.hy_drive.specs.State.{DriveState, Pending, nothing, going, replied, refused, drive_begun, IsFree, IsIdle}
+use Rattle.hy_drive.specs.State.{broken, DriveState, Pending, nothing, going, replied, refused, drive_begun, IsFree, IsIdle}
 use Rattle.hy_drive.specs.Calling.{dials_service, joins, closes, service_dialled, join_sent}
 use Rattle.hy_drive.specs.Arriving.{drive_took}
-use Rattle.hy_drive.specs.Role.{DriveLeads, Drives, Ends, Count, count_at}
+use Rattle.hy_drive.specs.Role.{DriveLeads, Drives, DrivesOn, Ends, IsCut, Count, count_at}
 use Rattle.hy_drive.specs.Standing.{StandsFor, IsSome, IsResting}
 use Rattle.hy_drive.specs.Stepping.{joined_state, Joins, Judges, stays, judges, pending_of, Takes, Closes, FaultAt, Settles, PlaysOn, Counts, not_yet_at}
 use Rattle.hy_drive.proofs.Rounds.{leads-then}
@@ -72,7 +72,7 @@ joined-idle arrivals conn = record { settled = record { free = record { clear = 
 
 -- ---- why it ends
 
-pub ends-by : (state : DriveState) (fault : DriveFault) → FaultAt fault state → Ends state (Err fault)
+pub ends-by : {Cut : Type 0} → (state : DriveState) (fault : DriveFault) → FaultAt fault state → Ends Cut state (Err fault)
 ends-by state NetFault shows = record {
   ok = tt;
   fault = λ is. inl shows;
@@ -103,7 +103,7 @@ ends-by state NoMemory shows = record {
   not_yet = λ have need never. absurd (let e : ⊥ = cc in e);
 }
 
-ends-replied : (state : DriveState) (reply : Reply) → state.outcome ≡ replied reply → Ends state (Ok reply)
+ends-replied : {Cut : Type 0} → (state : DriveState) (reply : Reply) → state.outcome ≡ replied reply → Ends Cut state (Ok reply)
 ends-replied state reply is = record {
   ok = is;
   fault = λ never. absurd (let e : ⊥ = cc in e);
@@ -112,10 +112,10 @@ ends-replied state reply is = record {
   not_yet = λ have need never. absurd (let e : ⊥ = cc in e);
 }
 
-ends-cut : (state : DriveState) (left : ℕ) → IsIdle state → state.left ≡ suc left → Ends state (Err NetFault)
-ends-cut state left idle more = record {
+ends-cut : {Cut : Type 0} → (state : DriveState) (left : ℕ) → Cut → IsIdle state → state.left ≡ suc left → Ends Cut state (Err NetFault)
+ends-cut state left cut idle more = record {
   ok = tt;
-  fault = λ is. inr (record { idle = idle; left = left; more = more });
+  fault = λ is. inr (record { waits = record { idle = idle; left = left; more = more }; cut = cut });
   sessions = λ never. absurd (let e : ⊥ = cc in e);
   large = λ size never. absurd (let e : ⊥ = cc in e);
   not_yet = λ have need never. absurd (let e : ⊥ = cc in e);
@@ -128,8 +128,8 @@ same-count have need count is =
     let made : Count → ℕ → ℕ → Count = λ c x y. record { have = x; need = y } in
     ap (λ (x : ℕ). made count x count.need) h ∙ ap (λ (y : ℕ). made count have y) n
 
-ends-waiting : (state : DriveState) (fault : DriveFault) → IsIdle state → state.left ≡ 0 → fault ≡ not_yet_at (count_at state.client) → Ends state (Err fault)
-ends-waiting state fault idle none is = subst (λ (f : DriveFault). Ends state (Err f)) (sym is) (record {
+ends-waiting : {Cut : Type 0} → (state : DriveState) (fault : DriveFault) → IsIdle state → state.left ≡ 0 → fault ≡ not_yet_at (count_at state.client) → Ends Cut state (Err fault)
+ends-waiting {Cut} state fault idle none is = subst (λ (f : DriveFault). Ends Cut state (Err f)) (sym is) (record {
   ok = tt;
   fault = λ never. absurd (let e : ⊥ = cc in e);
   sessions = λ never. absurd (let e : ⊥ = cc in e);
@@ -175,8 +175,8 @@ took-course job start state moves a taken arrivals course idle left more =
     (record { idle = idle; left = state.left - 1; one = one-more state.left taken arrivals left more; is = refl })
 
 -- want of memory while an arrival is taken
-pub starved-taking : (job : Job) (old driver : Driver) (arrivals taken : ℕ) (a : Arrived) (moves : List Move) → Stays job old arrivals taken driver moves → taken < arrivals
-    → PlaysOn job old arrivals (Err NoMemory) (arrived a ∷ moves)
+pub starved-taking : {Cut : Type 0} → (job : Job) (old driver : Driver) (arrivals taken : ℕ) (a : Arrived) (moves : List Move) → Stays job old arrivals taken driver moves → taken < arrivals
+    → PlaysOn job old arrivals Cut (Err NoMemory) (arrived a ∷ moves)
 starved-taking job old driver arrivals taken a moves rests more state idle stands left =
     let r = rests state idle stands left in record {
       state = drive_took (with_left r.after (r.after.left - 1)) a;
@@ -247,52 +247,66 @@ stays-on job old driver mid new arrivals taken a done moves closing-moves second
       left = omega (arith, s.left, t.left);
     }
 
-pub plays-replied : (job : Job) (old driver mid new : Driver) (arrivals taken : ℕ) (a : Arrived) (done : Option ℕ) (reply : Reply) (moves closing-moves second : List Move)
+pub plays-replied : {Cut : Type 0} → (job : Job) (old driver mid new : Driver) (arrivals taken : ℕ) (a : Arrived) (done : Option ℕ) (reply : Reply) (moves closing-moves second : List Move)
     → Stays job old arrivals taken driver moves → taken < arrivals → Takes driver mid a done → Closes done closing-moves → Settles job mid new (Ok (Some reply)) second
-    → PlaysOn job old arrivals (Ok reply) (second ++ (closing-moves ++ arrived a ∷ moves))
+    → PlaysOn job old arrivals Cut (Ok reply) (second ++ (closing-moves ++ arrived a ∷ moves))
 plays-replied job old driver mid new arrivals taken a done reply moves closing-moves second rests more took closed settles state idle stands left =
     let t = turned job old driver mid arrivals taken a done moves closing-moves rests more took closed state idle stands left in
     let s = settles t.after t.free t.stands in
     record { state = s.after; course = leads-then job state t.after s.after (closing-moves ++ arrived a ∷ moves) second t.course s.course; ends = ends-replied s.after reply s.replies }
 
-pub plays-stopped : (job : Job) (old driver mid new : Driver) (arrivals taken : ℕ) (a : Arrived) (done : Option ℕ) (fault : DriveFault) (moves closing-moves second : List Move)
+pub plays-stopped : {Cut : Type 0} → (job : Job) (old driver mid new : Driver) (arrivals taken : ℕ) (a : Arrived) (done : Option ℕ) (fault : DriveFault) (moves closing-moves second : List Move)
     → Stays job old arrivals taken driver moves → taken < arrivals → Takes driver mid a done → Closes done closing-moves → Settles job mid new (Err fault) second
-    → PlaysOn job old arrivals (Err fault) (second ++ (closing-moves ++ arrived a ∷ moves))
+    → PlaysOn job old arrivals Cut (Err fault) (second ++ (closing-moves ++ arrived a ∷ moves))
 plays-stopped job old driver mid new arrivals taken a done fault moves closing-moves second rests more took closed settles state idle stands left =
     let t = turned job old driver mid arrivals taken a done moves closing-moves rests more took closed state idle stands left in
     let s = settles t.after t.free t.stands in
     record { state = s.after; course = leads-then job state t.after s.after (closing-moves ++ arrived a ∷ moves) second t.course s.course; ends = ends-by s.after fault s.shows }
 
 -- no arrival could be had
-pub plays-cut : (job : Job) (old driver : Driver) (arrivals taken : ℕ) (moves : List Move) → Stays job old arrivals taken driver moves → taken < arrivals → PlaysOn job old arrivals (Err NetFault) moves
-plays-cut job old driver arrivals taken moves rests more state idle stands left =
+pub plays-cut : {Cut : Type 0} → (job : Job) (old driver : Driver) (arrivals taken : ℕ) (moves : List Move) → Cut → Stays job old arrivals taken driver moves → taken < arrivals → PlaysOn job old arrivals Cut (Err NetFault) moves
+plays-cut job old driver arrivals taken moves cut rests more state idle stands left =
     let r = rests state idle stands left in
-    record { state = r.after; course = r.course; ends = ends-cut r.after (r.after.left - 1) r.idle (one-more r.after.left taken arrivals r.left more) }
+    record { state = r.after; course = r.course; ends = ends-cut r.after (r.after.left - 1) cut r.idle (one-more r.after.left taken arrivals r.left more) }
 
 -- all were taken
-pub plays-out : (job : Job) (old driver : Driver) (arrivals : ℕ) (fault : DriveFault) (moves : List Move) → Stays job old arrivals arrivals driver moves → Counts driver fault
-    → PlaysOn job old arrivals (Err fault) moves
+pub plays-out : {Cut : Type 0} → (job : Job) (old driver : Driver) (arrivals : ℕ) (fault : DriveFault) (moves : List Move) → Stays job old arrivals arrivals driver moves → Counts driver fault
+    → PlaysOn job old arrivals Cut (Err fault) moves
 plays-out job old driver arrivals fault moves rests counts state idle stands left =
     let r = rests state idle stands left in
     record { state = r.after; course = r.course; ends = ends-waiting r.after fault r.idle (omega (arith, r.left)) (counts job r.after r.stands) }
 
 -- ---- from the first call on
 
-pub drives-joined : (job : Job) (driver : Driver) (arrivals conn : ℕ) (result : Result Reply DriveFault) (first second : List Move) → Joins job (Ok conn) first
-    → ((j : Job) (n : ℕ) → StandsFor j driver (joined_state n conn)) → PlaysOn job driver arrivals result second → Drives job arrivals result (second ++ first)
-drives-joined job driver arrivals conn result first second joined stands plays =
-    let p = plays (joined_state arrivals conn) (joined-idle arrivals conn) (stands job arrivals) refl in
-    record { state = p.state; course = leads-then job (drive_begun arrivals) (joined_state arrivals conn) p.state first second (joined arrivals) p.course; ends = p.ends }
+cut-by : {Cut Other : Type 0} → (state : DriveState) → (Cut → Other) → (state.outcome ≡ broken) ⊎ IsCut Cut state → (state.outcome ≡ broken) ⊎ IsCut Other state
+cut-by state says (inl shows) = inl shows
+cut-by state says (inr cut) = inr (record { waits = cut.waits; cut = says cut.cut })
 
-pub drives-stopped : (job : Job) (arrivals : ℕ) (fault : DriveFault) (moves : List Move) → Joins job (Err fault) moves → Drives job arrivals (Err fault) moves
+-- what is said of a cut says something else of it
+cut-as : {Cut Other : Type 0} → (state : DriveState) (result : Result Reply DriveFault) → (Cut → Other) → Ends Cut state result → Ends Other state result
+cut-as state result says ends = record {
+  ok = ends.ok;
+  fault = λ is. cut-by state says (ends.fault is);
+  sessions = ends.sessions;
+  large = ends.large;
+  not_yet = ends.not_yet;
+}
+
+pub drives-joined : {Cut Other : Type 0} → (job : Job) (driver : Driver) (arrivals conn : ℕ) (result : Result Reply DriveFault) (first second : List Move) → (Cut → Other) → Joins job (Ok conn) first
+    → ((j : Job) (n : ℕ) → StandsFor j driver (joined_state n conn)) → PlaysOn job driver arrivals Cut result second → Drives job arrivals Other result (second ++ first)
+drives-joined job driver arrivals conn result first second says joined stands plays =
+    let p = plays (joined_state arrivals conn) (joined-idle arrivals conn) (stands job arrivals) refl in
+    record { state = p.state; course = leads-then job (drive_begun arrivals) (joined_state arrivals conn) p.state first second (joined arrivals) p.course; ends = cut-as p.state result says p.ends }
+
+pub drives-stopped : {Cut : Type 0} → (job : Job) (arrivals : ℕ) (fault : DriveFault) (moves : List Move) → Joins job (Err fault) moves → Drives job arrivals Cut (Err fault) moves
 drives-stopped job arrivals fault moves joined =
     let s = joined arrivals in record { state = s.after; course = s.course; ends = ends-by s.after fault s.shows }
 
-pub drives-nothing : (job : Job) (arrivals : ℕ) → Drives job arrivals (Err NoMemory) []
+pub drives-nothing : {Cut : Type 0} → (job : Job) (arrivals : ℕ) → Drives job arrivals Cut (Err NoMemory) []
 drives-nothing job arrivals = record { state = drive_begun arrivals; course = begins; ends = ends-by (drive_begun arrivals) NoMemory tt }
 
 -- Join was sent, and memory ran out
-pub drives-starved : (job : Job) (arrivals conn : ℕ) (moves : List Move) → Joins job (Ok conn) moves → Drives job arrivals (Err NoMemory) moves
+pub drives-starved : {Cut : Type 0} → (job : Job) (arrivals conn : ℕ) (moves : List Move) → Joins job (Ok conn) moves → Drives job arrivals Cut (Err NoMemory) moves
 drives-starved job arrivals conn moves joined = record { state = joined_state arrivals conn; course = joined arrivals; ends = ends-by (joined_state arrivals conn) NoMemory tt }
 
 pub rests-joined : (job : Job) (driver : Driver) (conn : ℕ) → ((j : Job) (n : ℕ) → StandsFor j driver (joined_state n conn)) → IsResting job driver
@@ -331,14 +345,14 @@ behind-stays job old driver mid new arrivals taken a done first second more took
     subst (λ (m : List Move). Stays job old arrivals (taken + 1) new (second ++ m)) (sym b.are)
     (stays-on job old driver mid new arrivals taken a done b.before b.closing second b.rests more took b.closed settles)
 
-pub behind-replied : (job : Job) (old driver mid new : Driver) (arrivals taken : ℕ) (a : Arrived) (done : Option ℕ) (reply : Reply) (first second : List Move) → taken < arrivals → Takes driver mid a done
-    → Behind job old arrivals taken driver a done first → Settles job mid new (Ok (Some reply)) second → PlaysOn job old arrivals (Ok reply) (second ++ first)
-behind-replied job old driver mid new arrivals taken a done reply first second more took b settles =
-    subst (λ (m : List Move). PlaysOn job old arrivals (Ok reply) (second ++ m)) (sym b.are)
+pub behind-replied : {Cut : Type 0} → (job : Job) (old driver mid new : Driver) (arrivals taken : ℕ) (a : Arrived) (done : Option ℕ) (reply : Reply) (first second : List Move) → taken < arrivals → Takes driver mid a done
+    → Behind job old arrivals taken driver a done first → Settles job mid new (Ok (Some reply)) second → PlaysOn job old arrivals Cut (Ok reply) (second ++ first)
+behind-replied {Cut} job old driver mid new arrivals taken a done reply first second more took b settles =
+    subst (λ (m : List Move). PlaysOn job old arrivals Cut (Ok reply) (second ++ m)) (sym b.are)
     (plays-replied job old driver mid new arrivals taken a done reply b.before b.closing second b.rests more took b.closed settles)
 
-pub behind-stopped : (job : Job) (old driver mid new : Driver) (arrivals taken : ℕ) (a : Arrived) (done : Option ℕ) (fault : DriveFault) (first second : List Move) → taken < arrivals → Takes driver mid a done
-    → Behind job old arrivals taken driver a done first → Settles job mid new (Err fault) second → PlaysOn job old arrivals (Err fault) (second ++ first)
-behind-stopped job old driver mid new arrivals taken a done fault first second more took b settles =
-    subst (λ (m : List Move). PlaysOn job old arrivals (Err fault) (second ++ m)) (sym b.are)
+pub behind-stopped : {Cut : Type 0} → (job : Job) (old driver mid new : Driver) (arrivals taken : ℕ) (a : Arrived) (done : Option ℕ) (fault : DriveFault) (first second : List Move) → taken < arrivals → Takes driver mid a done
+    → Behind job old arrivals taken driver a done first → Settles job mid new (Err fault) second → PlaysOn job old arrivals Cut (Err fault) (second ++ first)
+behind-stopped {Cut} job old driver mid new arrivals taken a done fault first second more took b settles =
+    subst (λ (m : List Move). PlaysOn job old arrivals Cut (Err fault) (second ++ m)) (sym b.are)
     (plays-stopped job old driver mid new arrivals taken a done fault b.before b.closing second b.rests more took b.closed settles)

@@ -1,6 +1,6 @@
 -- Lemmas on what a client over a net does next.
 use Rattle.std.proofs.Common.{◌≡◌, ℕ, Bool, true, false, nat_lt, List, [], ◌∷◌, length, Option, Some, None, is_some, Result, Ok, Err, refl, sym, ap, subst, ◌∙◌}
-use Rattle.std.specs.Prelude.{All, IfSome, if◌then◌else◌}
+use Rattle.std.specs.Prelude.{All, IfSome, IfErr, IsOkUnless, if◌then◌else◌}
 use Rattle.hy_base.specs.declared.limits.TheConstants.{MAX_VALUE}
 use Rattle.hy_base.specs.Shape.{IsShape}
 use Rattle.hy_record.specs.declared.action.Action.{Action}
@@ -26,7 +26,7 @@ use Rattle.hy_drive.specs.Going.{DriveGoes, hands, too_large, turned_by, handed,
 use Rattle.hy_drive.specs.Role.{Suits}
 use Rattle.hy_drive.specs.Held.{HoldsService, HoldsLine, line_at}
 use Rattle.hy_drive.specs.Standing.{StandsFor, HoldsClient, Runs, IsSendableOut}
-use Rattle.hy_drive.specs.Stepping.{Steps, RepliesWith, Begins, BeginsTo}
+use Rattle.hy_drive.specs.Stepping.{Steps, RepliesWith, Begins, BeginsTo, IsOfNewClient}
 use Rattle.hy_drive.proofs.Sendable.{invoked-sendable, turn-sendable}
 use Rattle.hy_drive.proofs.Suiting.{turn-suits}
 use Rattle.hy_drive.proofs.Taking.{no-client}
@@ -63,6 +63,25 @@ fresh-refusal f k number action fitting = rw fitting refl
 pub accepted : {A : Type 0} (result : Result A InvokeFault) (refusal : Option InvokeFault) → IfSome refusal (λ wrong. result ≡ Err wrong) → (x : A) → result ≡ Ok x → refusal ≡ None
 accepted result None why x is = refl
 accepted {A = A} result (Some wrong) why x is = absurd (let e : ◌≡◌ {A = Result A InvokeFault} (Ok x) (Err wrong) = sym is ∙ why in cc)
+
+-- a client that is new refuses an action whose key is of its kind only where its value is too large
+large-new : (size : ℕ) (test : Bool) → IfSome (if test then Some (invoking.TooLarge size) else None) IsOfNewClient
+large-new size true = tt
+large-new size false = tt
+
+pub size-new : (action : Action) → IfSome (size_refusal action) IsOfNewClient
+size-new (asked.Put key value) = large-new (length value) (nat_lt MAX_VALUE (length value))
+size-new (asked.Get key) = tt
+size-new (asked.Delete key) = tt
+size-new (asked.Collect key) = tt
+size-new (asked.Swap key expected value) = large-new (length value) (nat_lt MAX_VALUE (length value))
+
+pub refused-new : {A : Type 0} (result : Result A InvokeFault) (fault : InvokeFault) (refusal : Option InvokeFault) → IfSome refusal IsOfNewClient
+    → IfSome refusal (λ wrong. result ≡ Err wrong) → (refusal ≡ None → IsOkUnless result invoking.NoMemory) → result ≡ Err fault → IsOfNewClient fault
+refused-new result fault None known refused starved is =
+    subst IsOfNewClient (sym (subst (λ (r : Result _ InvokeFault). IfErr r (λ x. x ≡ invoking.NoMemory)) is (starved refl))) tt
+refused-new {A = A} result fault (Some wrong) known refused starved is =
+    subst IsOfNewClient (let e : ◌≡◌ {A = Result A InvokeFault} (Err wrong) (Err fault) = sym refused ∙ is in let same : wrong ≡ fault = cc in same) known
 
 runs-new : (job : Job) (number : ℕ) (client : Client) → too_large job.action ≡ None → is_swap job.action ≡ false → StandsForSession client (session_invoked (fresh_session job.f job.k number) job.action)
     → Runs job client (session_invoked (fresh_session job.f job.k number) job.action)

@@ -49,25 +49,31 @@ pub record IsUnreplied (state : DriveState) (have need : ℕ) : Type 0 where
   pub none : state.left ≡ 0
   pub count : count_at state.client ≡ record { have = have; need = need }
 
--- why it ended in this state
-pub record Ends (state : DriveState) (result : Result Reply DriveFault) : Type 0 where
+-- it waits for an arrival that it is to take, and none could be taken, which is what `Cut` says
+pub record IsCut (Cut : Type 0) (state : DriveState) : Type 0 where
+  pub waits : WantsMore state
+  pub cut : Cut
+
+-- why it ended in this state; `Cut` says that no arrival could be taken
+pub record Ends (Cut : Type 0) (state : DriveState) (result : Result Reply DriveFault) : Type 0 where
   pub ok : IfOk result (λ reply. state.outcome ≡ replied reply)
-  pub fault : IsErrOf result NetFault → (state.outcome ≡ broken) ⊎ WantsMore state
+  pub fault : IsErrOf result NetFault → (state.outcome ≡ broken) ⊎ IsCut Cut state
   pub sessions : IsErrOf result SessionsFull → state.outcome ≡ full
   pub large : (size : ℕ) → result ≡ Err (TooLarge size) → state.outcome ≡ refused size
   pub not_yet : (have need : ℕ) → result ≡ Err (NotYet have need) → IsUnreplied state have need
 
 -- how it played from a state on, and why it ended
 pub record DrivesOn (job : Job) (start : DriveState)
+    (Cut : Type 0)
     (result : Result Reply DriveFault)
     (moves : List Move) : Type 0 where
   pub state : DriveState
   pub course : DriveLeads job start moves state
-  pub ends : Ends state result
+  pub ends : Ends Cut state result
 
 -- how a client that is to take so many arrivals played, and why it ended
-abbrev pub Drives : Job → ℕ → Result Reply DriveFault → List Move → Type 0
-Drives job arrivals result moves = DrivesOn job (drive_begun arrivals) result moves
+abbrev pub Drives : Job → ℕ → Type 0 → Result Reply DriveFault → List Move → Type 0
+Drives job arrivals Cut result moves = DrivesOn job (drive_begun arrivals) Cut result moves
 
 -- frames can carry what the action asks of the service, and its key is of its kind
 pub record IsDrivable (action : Action) : Type 0 where

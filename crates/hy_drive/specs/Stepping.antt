@@ -205,13 +205,17 @@ Begins job old new number result = (state : DriveState)
     → StandsFor job old state
     → BeginsTo job (invoked job state number) new result
 
--- why the client does not begin
-abbrev pub refusal_of : InvokeFault → DriveFault
-refusal_of (invoking.TooLarge size) = TooLarge size
-refusal_of invoking.Stopped = NoMemory
-refusal_of (invoking.Busy op) = NoMemory
-refusal_of invoking.WrongKey = NoMemory
-refusal_of invoking.NoMemory = NoMemory
+-- why a new client does not begin an action whose key is of its kind
+abbrev pub Refused : InvokeFault → DriveFault → Type 0
+Refused (invoking.TooLarge size) fault = fault ≡ TooLarge size
+Refused invoking.NoMemory fault = fault ≡ NoMemory
+Refused other fault = ⊥
+
+-- a new client can refuse such an action with this
+abbrev pub IsOfNewClient : InvokeFault → Type 0
+IsOfNewClient (invoking.TooLarge size) = Unit {0}
+IsOfNewClient invoking.NoMemory = Unit {0}
+IsOfNewClient other = ⊥
 
 -- ---- the parts that calls change
 
@@ -355,9 +359,10 @@ Joins job (Ok conn) moves =
 Joins job (Err fault) moves = (arrivals : ℕ) → Stops job (drive_begun arrivals) fault moves
 
 -- how it played from any state that it stands for and waits in
-abbrev pub PlaysOn : Job → Driver → ℕ → Result Reply DriveFault → List Move → Type 0
-PlaysOn job old arrivals result moves = (state : DriveState)
+abbrev pub PlaysOn :
+    Job → Driver → ℕ → Type 0 → Result Reply DriveFault → List Move → Type 0
+PlaysOn job old arrivals Cut result moves = (state : DriveState)
     → IsIdle state
     → StandsFor job old state
     → state.left ≡ arrivals
-    → DrivesOn job state result moves
+    → DrivesOn job state Cut result moves

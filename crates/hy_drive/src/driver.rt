@@ -10,7 +10,7 @@ ghost use Rattle.hy_drive.specs.Role.{IsDrivable};
 ghost use Rattle.hy_drive.specs.declared.job.Job.{Job as JobValue};
 ghost use Rattle.hy_drive.specs.State.{DriveState, IsFree};
 ghost use Rattle.hy_drive.specs.Standing.{StandsFor, IsHeld};
-ghost use Rattle.hy_drive.specs.Stepping.{joined_state, is_service_of, refusal_of, Takes, Follows, Hands, Tells, Begins, HearsAnswer, HearsSession, HasService, Counts, Awaited, Lost};
+ghost use Rattle.hy_drive.specs.Stepping.{joined_state, is_service_of, IsOfNewClient, Refused, Takes, Follows, Hands, Tells, Begins, HearsAnswer, HearsSession, HasService, Counts, Awaited, Lost};
 
 use crate::cloud_lines::CloudLines;
 use crate::errand::Errand;
@@ -324,15 +324,14 @@ impl Driver {
     }
 }
 
-/// Why the client does not begin.
+/// Why a new client does not begin the action: its value is too large, or memory ran out.
 fn refusal(fault: InvokeFault) -> DriveFault
-    ensures { result ≡ refusal_of fault }
+    requires { IsOfNewClient fault }
+    ensures { Refused fault result }
 {
     match fault {
         InvokeFault::TooLarge(size) => DriveFault::TooLarge(size),
-        InvokeFault::Stopped
-        | InvokeFault::Busy(_)
-        | InvokeFault::WrongKey
-        | InvokeFault::NoMemory => DriveFault::NoMemory,
+        InvokeFault::NoMemory => DriveFault::NoMemory,
+        InvokeFault::Stopped | InvokeFault::Busy(_) | InvokeFault::WrongKey => unreachable!(),
     }
 }

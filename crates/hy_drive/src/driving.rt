@@ -32,12 +32,16 @@ pub fn drive_client<N: Net>(
     requires shape { IsShape job.now.f job.now.k }
     requires drives { IsDrivable job.now.action }
     requires ports { job.now.clouds ≤ 65520 }
-    ensures plays { Adds N.told N.tells net.old net.new (Drives job.now arrivals result) }
+    ensures plays { Adds N.told N.tells net.old net.new (Drives job.now arrivals
+        (Rose (N.taking_faults net.old) (N.taking_faults net.new))
+        result) }
     ensures suits { IfOk result (Suits job.now.action) }
     ensures large { OnLarge job.now result }
     ensures fault { IsErrOf result faults.NetFault
         → Rose (N.taking_faults net.old) (N.taking_faults net.new)
         ⊎ Rose (N.sending_faults net.old) (N.sending_faults net.new) }
+    ensures kept { ¬ IsErrOf result faults.NetFault
+        → N.taking_faults net.new ≡ N.taking_faults net.old }
 {
     let mut buf = buffer(alloc)?;
     let conn = join(net, alloc, job)?;
@@ -73,13 +77,16 @@ fn drive_over<N: Net>(
     requires drives { IsDrivable job.now.action }
     requires ports { job.now.clouds ≤ 65520 }
     requires rests { IsResting job.now driver.old }
-    ensures plays { Adds N.told N.tells net.old net.new
-        (PlaysOn job.now driver.old arrivals result) }
+    ensures plays { Adds N.told N.tells net.old net.new (PlaysOn job.now driver.old arrivals
+        (Rose (N.taking_faults net.old) (N.taking_faults net.new))
+        result) }
     ensures suits { IfOk result (Suits job.now.action) }
     ensures large { OnLarge job.now result }
     ensures fault { IsErrOf result faults.NetFault
         → Rose (N.taking_faults net.old) (N.taking_faults net.new)
         ⊎ Rose (N.sending_faults net.old) (N.sending_faults net.new) }
+    ensures kept { ¬ IsErrOf result faults.NetFault
+        → N.taking_faults net.new ≡ N.taking_faults net.old }
 {
     for _taken in 0..arrivals {
         let arrival = net.next(buf)?;

@@ -1,4 +1,6 @@
+use Rattle.std.proofs.Common.{ℕ, subst}
 use Rattle.std.proofs.lemmas.Result.{err_from_is_err_and}
+use Rattle.hy_base.specs.Faults.{Rose}
 use Rattle.hy_base.proofs.Adding.{Adds-none, Adds-weaken, Adds-append}
 use Rattle.hy_drive.proofs.Arrivals.{drives-nothing, drives-stopped, drives-starved, drives-joined, rests-joined}
 use Rattle.hy_drive.proofs.driving.drive_client.Goals as goal
@@ -26,4 +28,5 @@ returns-in_err-driver-clause-plays g c =
 pub returns-clause-plays : goal.returns-clause-plays
 returns-clause-plays g c =
     Adds-append g.N.Net.told g.N.Net.tells c.args.net.now c.join.new.net c.drive_over.new.net _ _ _ c.in_ok-conn.ensures.plays c.drive_over.ensures.plays
-    (λ first second joined plays. drives-joined c.args.job.now c.in_ok-driver.driver c.args.arrivals c.in_ok-conn.conn c.drive_over.result first second joined c.in_ok-driver.ensures plays)
+    (λ first second joined plays. drives-joined c.args.job.now c.in_ok-driver.driver c.args.arrivals c.in_ok-conn.conn c.drive_over.result first second
+    (λ rose. subst (λ (n : ℕ). Rose n (g.N.Net.taking_faults c.drive_over.new.net)) c.in_ok-conn.ensures.taking rose) joined c.in_ok-driver.ensures plays)

@@ -1,5 +1,6 @@
 use Rattle.std.proofs.Common.{ℕ, Option, Ok, refl, ◌∙◌, subst, arith}
 use Rattle.std.proofs.lemmas.Result.{err_from_is_err_and}
+use Rattle.hy_base.specs.Faults.{Rose}
 use Rattle.hy_base.specs.Moves.{came}
 use Rattle.hy_base.specs.Net.{Adds}
 use Rattle.hy_base.proofs.Adding.{Adds-none, Adds-weaken, Adds-kept, Adds-more, Adds-append}
@@ -24,7 +25,9 @@ pub returns-in_err-arrival-clause-plays : goal.returns-in_err-arrival-clause-pla
 returns-in_err-arrival-clause-plays g c =
     let p = err_from_is_err_and c.from_residual.result c.from_residual.ensures.1 in
     rw (p.1, p.2) (Adds-kept g.N.Net.told g.N.Net.tells c.args.net.now c.loop-taken.net c.next.new.self _ _ c.loop-taken.invariant.plays c.in_err-arrival.ensures.tells
-    (λ moves rests. plays-cut c.args.job.now c.args.driver.now c.loop-taken.driver c.args.arrivals c.loop-taken._taken moves rests c.loop-taken-test.true))
+    (λ moves rests. plays-cut c.args.job.now c.args.driver.now c.loop-taken.driver c.args.arrivals c.loop-taken._taken moves
+    (subst (λ (n : ℕ). Rose n (g.N.Net.taking_faults c.next.new.self)) c.loop-taken.invariant.taking c.in_err-arrival.ensures.cause.rose)
+    rests c.loop-taken-test.true))
 
 pub returns-in_err-done-clause-plays : goal.returns-in_err-done-clause-plays
 returns-in_err-done-clause-plays g c =
