@@ -4,18 +4,23 @@ use std::rt::Clock;
 use std::thread;
 use std::time::{Duration, Instant};
 
-/// So many microseconds without an arrival are a Quiet, which is a timeout to whoever waits.
+/// So many microseconds without an arrival are the first Quiet behind one. A Quiet is a timeout to whoever
+/// waits.
 const QUIET: u32 = 4_000;
+
+/// The longest Quiet, in microseconds. Each in a row is twice as long as the one before it, so that a peer
+/// that is far is asked again some times and not dozens of times.
+const LONGEST_QUIET: u32 = 64_000;
 
 /// So many microseconds after a Quiet the next comes at a pass that finds nothing, also where arrivals
 /// came meanwhile: so a peer that sends a byte now and then keeps nobody from a timeout.
-const STEADY: u128 = 50_000;
+const STEADY: u128 = 64_000;
 
 /// The first rest after an arrival, in microseconds.
 const SHORTEST: u32 = 20;
 
 /// The longest rest soon after an arrival, in microseconds. Each Quiet in a row doubles it, up to the
-/// time of a Quiet.
+/// time of the first Quiet.
 const LONGEST: u32 = 250;
 
 /// What a rest takes beyond its length, in microseconds.
@@ -32,6 +37,7 @@ pub(crate) struct Pace {
     rest: u32,
     longest: u32,
     spent: u32,
+    quiet: u32,
     since: Option<Instant>,
 }
 
@@ -43,8 +49,15 @@ impl Pace {
             rest: SHORTEST,
             longest: LONGEST,
             spent: 0,
+            quiet: QUIET,
             since: None,
         }
+    }
+
+    /// Something came: the next Quiet is a short one again.
+    pub(crate) fn came(&mut self) {
+        self.quiet = QUIET;
+        self.hurry();
     }
 
     /// Begins without a rest, and then with the shortest one again.
@@ -65,9 +78,10 @@ impl Pace {
     /// Whether nothing came for so long that it is quiet, or the last Quiet is so long ago. The next count
     /// begins then.
     pub(crate) fn is_over<C: Clock>(&mut self, clock: &C) -> bool {
-        let over = self.spent >= QUIET || self.is_due(clock);
+        let over = self.spent >= self.quiet || self.is_due(clock);
         if over {
             self.spent = 0;
+            self.quiet = self.quiet.saturating_mul(2).min(LONGEST_QUIET);
             self.longest = self.longest.saturating_mul(2).min(QUIET);
             self.since = Instant::now(clock).ok();
         }

@@ -151,7 +151,7 @@ impl Sockets {
         for _ in 0..PASSES {
             self.flush();
             if let Some(arrival) = self.read_or_accept(buf)? {
-                self.pace.hurry();
+                self.pace.came();
                 return Ok(arrival);
             }
             if self.pace.is_over(clock) {

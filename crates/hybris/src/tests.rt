@@ -14,9 +14,9 @@ const PUT: &[u8] =
 
 const CREATED: &[u8] = b"HTTP/1.1 201 Created\r\nContent-Length: 0\r\nConnection: close\r\n\r\n";
 
-/// The status of the program that serves a cloud over this net, until 2,000 arrivals were taken.
+/// The status of the program that serves a cloud over this net, until 200 arrivals were taken.
 fn serve<N: Net>(alloc: Global, net: &mut N) -> Result<Status, NoMemory> {
-    let words = ["cloud", "7100", "--arrivals", "2000"]
+    let words = ["cloud", "7100", "--arrivals", "200"]
         .iter()
         .map(|word| word.to_string(alloc))
         .try_collect(alloc)?;
@@ -35,7 +35,7 @@ fn dial<N: Net>(net: &mut N) -> Option<u32> {
     None
 }
 
-/// What the cloud answers to a put, within 2,000 calls.
+/// What the cloud answers to a put, within 200 calls.
 fn put<N: Net>(alloc: Global, net: &mut N) -> Result<Vec<u8>, NoMemory> {
     let mut answer = Vec::new(alloc);
     let Some(conn) = dial(net) else {
@@ -43,7 +43,7 @@ fn put<N: Net>(alloc: Global, net: &mut N) -> Result<Vec<u8>, NoMemory> {
     };
     let _sent = net.send(conn, PUT);
     let mut buf = vec![in alloc; 0u8; 4096]?;
-    for _call in 0..2_000 {
+    for _call in 0..200 {
         match net.next(&mut buf) {
             Ok(Arrival::Bytes(_, count)) => answer.extend_from_slice(&buf[..count])?,
             Ok(Arrival::Closed(_)) | Err(_) => return Ok(answer),
