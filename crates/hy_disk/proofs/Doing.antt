@@ -61,6 +61,9 @@ reach_failed old new steps bytes end fails is later grows = subst (λ (d : DiskV
     omega arith,
   );
   faulty = λ within. omega arith;
+  slow = λ suffices small.
+      let below = All-contains (λ n. n < 2 ^ 64 - 1) old.failing (next_count old.calls) small (fails suffices) in
+      omega (arith, below);
 })
 
 -- a call that did not fail
@@ -76,6 +79,7 @@ reach_done old new steps bytes end works room failing calls faults later marks w
   written = written;
   sound = λ suffices small. inl faults;
   faulty = λ within. absurd (works (only_next old.failing old.calls (subst (λ (n : ℕ). FailsWithin old.failing old.calls n) calls within)));
+  slow = λ suffices small. omega (arith, faults, later);
 }
 
 pub no_room : (disk : DiskValue) (place n : ℕ) → has_room disk place n ≡ false → Suffices disk 1 n (place + n) → ⊥

@@ -75,6 +75,7 @@ reach_same disk = record {
   written = omega arith;
   sound = λ _ _. inl refl;
   faulty = λ within. absurd (none_within disk.failing disk.calls within);
+  slow = λ _ _. omega arith;
 }
 
 pub reach_more : (a b : DiskValue) (steps more bytes others end last : ℕ) → steps ≤ more
@@ -92,6 +93,11 @@ reach_more a b steps more bytes others end last s w e reach = record {
     marks = omega (arith, suffices.marks);
   }) small;
   faulty = reach.faulty;
+  slow = λ suffices small. reach.slow (record {
+    file = omega (arith, suffices.file);
+    written = omega (arith, suffices.written);
+    marks = omega (arith, suffices.marks);
+  }) small;
 }
 
 le_or_lt : (n m : ℕ) → (n ≤ m) ⊎ (m < n)
@@ -117,8 +123,24 @@ reach_then a b c steps more bytes others end last first second = record {
   written = omega (arith, first.written, second.written);
   sound = sound;
   faulty = faulty;
+  slow = slow;
 }
   where
+    slow : Suffices a (steps + more) (bytes + others) (max end last) → AreSmall a.failing
+        → c.faults + a.calls ≤ a.faults + c.calls
+    slow suffices small =
+        let one = first.slow (record {
+          file = omega (arith, suffices.file);
+          written = omega (arith, suffices.written);
+          marks = omega (arith, suffices.marks);
+        }) small in
+        let two = second.slow (record {
+          file = omega (arith, suffices.file, first.room);
+          written = omega (arith, suffices.written, first.written, first.room);
+          marks = omega (arith, suffices.marks, first.marks, ap (λ (n : ℕ). n / 8) first.room);
+        }) (subst AreSmall (sym first.failing) small) in
+        omega (arith, one, two)
+
     earlier : FailsWithin a.failing a.calls b.calls → FailsWithin a.failing a.calls c.calls
     earlier within =
         let above = within.2 in

@@ -119,6 +119,9 @@ pub record Reach (old new : DiskValue) (steps bytes end : ℕ) : Type 0 where
   pub sound : Suffices old steps bytes end → AreSmall old.failing
       → (new.faults ≡ old.faults) ⊎ FailsWithin old.failing old.calls new.calls
   pub faulty : FailsWithin old.failing old.calls new.calls → Rose old.faults new.faults
+  -- the count of faults rose by one for each call at most
+  pub slow : Suffices old steps bytes end → AreSmall old.failing
+      → new.faults + old.calls ≤ old.faults + new.calls
 
 -- ---- how the steps lie in memory
 

@@ -25,7 +25,7 @@ unfolding sessions_after_all
 grows_append given [] b = grows given b
 grows_append given (e ∷ a) b = grows_append (sessions_with given e) a b
 
-grows_found : (a more found : List Entry) → IsWithOrWithout a more found → sessions_of a ≤ sessions_of found
+pub grows_found : (a more found : List Entry) → IsWithOrWithout a more found → sessions_of a ≤ sessions_of found
 grows_found a more found (inl same) = omega (arith, ap sessions_of same)
 grows_found a more found (inr longer) = omega (arith, ap sessions_of longer, grows_append 0 a more)
 

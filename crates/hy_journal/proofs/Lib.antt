@@ -14,3 +14,9 @@ mod Surviving
 mod Histories
 mod Deciding
 mod Requesting
+mod Swaps
+mod Weighing
+mod Keeping
+mod Answering
+mod Beginning
+mod Going

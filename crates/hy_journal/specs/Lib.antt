@@ -1,6 +1,9 @@
 pub mod Entry
+pub mod Swap
 pub mod File
 pub mod Fold
 pub mod Keeper
 pub mod History
 pub mod Requests
+pub mod Kept
+pub mod Playing

@@ -2,10 +2,13 @@
 
 ghost use Rattle.std.specs.Prelude.{◌≡◌, ◌++◌, ◌∷◌, [], IfOk, OnOk, MatchOption, Some, None, true};
 ghost use Rattle.hy_mwire.specs.Front.{AreBytes};
-ghost use Rattle.hy_mwire.specs.Message.{IsFramedAsk};
+ghost use Rattle.hy_mwire.specs.declared.message.Message.TheVariants as messages;
+ghost use Rattle.hy_mwire.specs.Frames.{frame_of};
+ghost use Rattle.hy_mwire.specs.Message.{IsAsk, IsFramedAsk};
 ghost use Rattle.hy_journal.specs.declared.entry.Entry.TheVariants as kinds;
 ghost use Rattle.hy_journal.specs.Entry.{is_kept, IsEntry, entry_bytes, entry_in, HasEntry, LacksEntry};
 
+use crate::swap::{swap_at, write_swap};
 use hy_base::NoMemory;
 use hy_mwire::{Front, Message, encode, encode_ask, frames_are_read_back, front_of};
 use hy_record::MetaAsk;
@@ -41,12 +44,34 @@ pub(crate) fn join_bytes(alloc: Global) -> Result<Vec<u8>, NoMemory>
 }
 
 /// The bytes of the request's entry, and the closed gate behind it.
-#[tactic(auto, unfolding(crate::specs::Entry::entry_bytes, crate::specs::Entry::IsEntry))]
+#[tactic(auto, unfolding(crate::specs::Entry::entry_bytes, crate::specs::Entry::IsEntry, crate::specs::Entry::is_kept))]
 pub(crate) fn ask_bytes(alloc: Global, ask: &MetaAsk) -> Result<Vec<u8>, NoMemory>
     requires kept { is_kept ask.now ≡ true }
-    requires framed { IsFramedAsk ask.now }
     ensures bytes { IfOk result (λ bytes. bytes.items ≡ entry_bytes (kinds.Ask ask.now) ++ 0 ∷ []) }
     ensures known { OnOk result (IsEntry (kinds.Ask ask.now)) }
+{
+    match ask {
+        MetaAsk::Swap {
+            client,
+            op,
+            key,
+            expected,
+            rec,
+        } => {
+            let bytes = write_swap(alloc, *client, *op, key, expected, rec)?;
+            closed(bytes)
+        }
+        MetaAsk::Update { .. } => framed(alloc, ask),
+        MetaAsk::Forget { .. } => framed(alloc, ask),
+        MetaAsk::Read { .. } | MetaAsk::Watch { .. } | MetaAsk::Olds { .. } => unreachable!(),
+    }
+}
+
+/// The frame of what is asked, and a closed gate behind it.
+fn framed(alloc: Global, ask: &MetaAsk) -> Result<Vec<u8>, NoMemory>
+    requires { IsFramedAsk ask.now }
+    ensures bytes { IfOk result (λ bytes. bytes.items ≡ frame_of (messages.Ask ask.now) ++ 0 ∷ []) }
+    ensures known { OnOk result (IsAsk ask.now) }
 {
     let bytes = encode_ask(alloc, ask)?.into_bytes();
     closed(bytes)
@@ -97,6 +122,9 @@ pub(crate) fn entry_at(alloc: Global, bytes: &[u8]) -> Result<Option<(Entry, usi
             }
         }
         Front::Partial => Ok(None),
-        Front::Fault(_fault) => Ok(None),
+        Front::Fault(_fault) => match swap_at(alloc, bytes)? {
+            Some(swap) => Ok(Some(swap)),
+            None => Ok(None),
+        },
     }
 }

@@ -4,7 +4,6 @@ ghost use Rattle.std.specs.Prelude.{◌≡◌, ◌≢◌, ◌⊎◌, ◌↔◌, 
 ghost use Rattle.hy_base.specs.Faults.{Rose};
 ghost use Rattle.hy_disk.specs.Crash.{LeavesOnly};
 ghost use Rattle.hy_record.specs.declared.message.MetaAsk.{MetaAsk as TheAsk};
-ghost use Rattle.hy_mwire.specs.Message.{IsFramedAsk};
 ghost use Rattle.hy_meta.specs.Meta.{service_answers};
 ghost use Rattle.hy_meta.specs.Sessions.{next_session};
 ghost use Rattle.hy_journal.specs.declared.limits.TheConstants.{MAX_JOURNAL};
@@ -130,10 +129,9 @@ impl<D: Disk> Keeper<D> {
 
     /// Serves a request, and answers it: the messages, in the order in which they are to be sent.
     ///
-    /// A request that changes what the service keeps is in the journal for good before it is
-    /// answered. A swap has no entry yet: the request is one that a frame can carry.
+    /// A request that changes what the service keeps, a swap too that is refused, is in the journal
+    /// for good before it is answered.
     pub fn serve(&mut self, alloc: Global, ask: &MetaAsk) -> Result<Vec<MetaSay>, KeepFault>
-        requires { IsFramedAsk ask.now }
         ensures says { IfOk result (λ says. (entries : List TheEntry) (served : List TheAsk) →
             Stands D.contents D.may_leave self.old entries served →
             says.items ≡ service_answers served ask.now) }
@@ -171,7 +169,6 @@ impl<D: Disk> Keeper<D> {
     /// Serves a request that changes what the service keeps.
     fn keep(&mut self, alloc: Global, ask: &MetaAsk) -> Result<Vec<MetaSay>, KeepFault>
         requires kept { is_kept ask.now ≡ true }
-        requires framed { IsFramedAsk ask.now }
         requires sound { is_broken self.old ≡ false }
         ensures says { IfOk result (λ says. (entries : List TheEntry) (served : List TheAsk) →
             Stands D.contents D.may_leave self.old entries served →

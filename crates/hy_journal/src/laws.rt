@@ -15,7 +15,7 @@ ghost use Rattle.hy_journal.specs.File.{Recovers, IsBadAt};
 ghost use Rattle.hy_journal.specs.Fold.{asks_of, kept_asks};
 ghost use Rattle.hy_journal.specs.History.{Event, IsHistory, ids_of, IsFalling};
 
-use hy_mwire::frames_are_apart;
+use hy_mwire::{frames_are_apart, frames_are_read_back};
 
 /// A file stands for the entries of one list, or is too long, or has a bad entry at one place.
 pub fn files_stand_for_one_list()
@@ -26,6 +26,7 @@ pub fn files_stand_for_one_list()
     ensures short { (file : List ℕ) (a : List Entry) →
         Recovers a file → length file ≤ MAX_JOURNAL }
 {
+    frames_are_read_back();
     frames_are_apart();
 }
 

@@ -8,8 +8,7 @@
 //!     let says = keeper.serve(alloc, &ask)?;
 //!
 //! The file is a gate, and behind each open gate an entry and the next gate. An entry is written
-//! with a closed gate behind it and synced; only then its own gate is opened, and synced. A swap
-//! has no entry yet: `serve` takes the requests that a frame can carry.
+//! with a closed gate behind it and synced; only then its own gate is opened, and synced.
 //!
 //! `read_requests` reads what a keeper is to serve, frame by frame, up to the first that is none.
 //!
@@ -26,6 +25,7 @@ mod append;
 mod entry;
 mod fault;
 mod keeper;
+mod kept;
 mod laws;
 mod limits;
 mod opening;
@@ -33,10 +33,12 @@ mod replay;
 mod requests;
 mod state;
 mod store;
+mod swap;
 
 pub use entry::Entry;
 pub use fault::{KeepFault, OpenFault, RequestsFault};
 pub use keeper::Keeper;
+pub use kept::{KEPT_ROOM, kept_answers};
 pub use laws::{
     entries_decide, files_stand_for_one_list, ids_are_given_once, requests_are_read_in_one_way,
 };

@@ -124,6 +124,67 @@ fn an_update_is_found_again(rt: HostRuntime) -> Result<(), Fail> {
     Ok(())
 }
 
+/// The first bytes of the disk's file.
+fn front_of(alloc: Global, disk: &mut MemDisk, count: usize) -> Result<Vec<u8>, Fail> {
+    let mut front = vec![in alloc; 0u8; count]?;
+    let read = disk.read_at(0, &mut front).ok().ok_or("bytes")?;
+    front.truncate(read);
+    Ok(front)
+}
+
+/// What the keeper answers to a swap of the key `_a` by client 1, which expects no record.
+fn swapped(alloc: Global, keeper: &mut Keeper<MemDisk>, op: u32) -> Result<Vec<MetaSay>, Fail> {
+    let key = Key::read(b"_a").ok().ok_or("a key")?;
+    let stamp = Stamp::new(1, 1).ok_or("a stamp")?;
+    let swap = MetaAsk::Swap {
+        client: 1,
+        op,
+        key,
+        expected: Stamp::zero(),
+        rec: Record::tomb(alloc, stamp).ok().ok_or("a record")?,
+    };
+    let says = keeper.serve(alloc, &swap).ok().ok_or("answers")?;
+    Ok(says)
+}
+
+#[test]
+fn a_swap_is_kept_as_it_was_served(rt: HostRuntime) -> Result<(), Fail> {
+    let alloc = rt.alloc();
+    let client = 1;
+    let key = Key::read(b"_a").ok().ok_or("a key")?;
+    let stamp = Stamp::new(1, 1).ok_or("a stamp")?;
+    let disk = disk_failing_at(alloc, 0)?;
+    let mut keeper = opened(alloc, disk)?;
+    let done = MetaSay::Swapped {
+        client,
+        op: 1,
+        key,
+        stamp,
+    };
+    let done = vec![in alloc; done]?;
+    assert_eq!(rt; swapped(alloc, &mut keeper, 1)?, done);
+    let mut disk = keeper.into_disk();
+    assert_eq!(rt;
+        front_of(alloc, &mut disk, 64)?.as_slice(),
+        [
+            1, 0, 0, 0, 30, 7, 0, 0, 0, 1, 0, 0, 0, 1, 2, b'_', b'a', 0, 0, 0, 0, 0, 0, 0, 0, 1, 0,
+            0, 0, 0, 1, 0, 0, 0, 1, 0,
+        ]
+        .as_slice()
+    );
+    // After a crash it is answered again, and the next one finds what it made.
+    let mut keeper = opened(alloc, disk)?;
+    assert_eq!(rt; swapped(alloc, &mut keeper, 1)?, done);
+    let changed = MetaSay::Changed {
+        client,
+        op: 2,
+        key,
+        stamp,
+    };
+    assert_eq!(rt; swapped(alloc, &mut keeper, 2)?, vec![in alloc; changed]?);
+    Ok(())
+}
+
 #[test]
 fn requests_are_read_until_one_is_bad(rt: HostRuntime) -> Result<(), Fail> {
     let alloc = rt.alloc();

@@ -4,7 +4,7 @@ use Rattle.hy_base.specs.Sink.{SinkUse}
 use Rattle.hy_top.specs.Answer.{IsWritten, IsTold}
 use Rattle.hy_top.specs.Job.{status_due}
 use Rattle.hy_top.specs.declared.status.Status.{Status}
-use Rattle.hy_top.specs.declared.status.Status.TheVariants.{Done, BadInput, BadWords, NotYet, ReadFault, WriteFault, NetFault, NoMemory, TooLong, Illegal, Exhausted, TooLarge, SessionsFull}
+use Rattle.hy_top.specs.declared.status.Status.TheVariants.{Done, BadInput, BadWords, NotYet, ReadFault, WriteFault, NetFault, NoMemory, TooLong, Illegal, Exhausted, TooLarge, SessionsFull, BadFrames}
 
 -- an answer whose text was written is told by its status
 told_as_due : (answer : Result (List ℕ) Status) (output : SinkUse) → (answer ≡ Err WriteFault → ⊥) → IsWritten answer output → IsTold answer output (status_due answer)
@@ -22,6 +22,7 @@ told_as_due (Err (NotYet have need)) output other written = (refl, written)
 told_as_due (Err (Exhausted stamp)) output other written = (refl, written)
 told_as_due (Err (TooLarge size)) output other written = (refl, written)
 told_as_due (Err SessionsFull) output other written = (refl, written)
+told_as_due (Err (BadFrames place)) output other written = (refl, written)
 
 pub told_whole : (answer : Result (List ℕ) Status) (output : SinkUse) (status : Status) → (answer ≡ Err WriteFault → ⊥) → status ≡ status_due answer → IsWritten answer output → IsTold answer output status
 told_whole answer output status other due written = subst (IsTold answer output) (sym due) (told_as_due answer output other written)

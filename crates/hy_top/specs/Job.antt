@@ -6,6 +6,7 @@ use Rattle.hy_serve.specs.MetaRole.{ServesMeta}
 use Rattle.hy_top.specs.Check.{Checks}
 use Rattle.hy_top.specs.Command.{Asks, IsCommand}
 use Rattle.hy_top.specs.Input.{IsWholeInput, IsUnreadable, IsOverlong}
+use Rattle.hy_top.specs.Keep.{Keeps}
 use Rattle.hy_top.specs.Line.{refusal_line}
 use Rattle.hy_top.specs.Make.{MakesSummary}
 use Rattle.hy_top.specs.Replay.{Replays}
@@ -16,7 +17,7 @@ use Rattle.hy_top.specs.Vectors.{GivesVectors}
 use Rattle.hy_words.specs.declared.command.Command.{Command}
 use Rattle.hy_words.specs.declared.command.Command.TheVariants.{OnText, Make, Vectors, Meta, Cloud, OnStore}
 use Rattle.hy_words.specs.declared.command.TextCommand.{TextCommand}
-use Rattle.hy_words.specs.declared.command.TextCommand.TheVariants.{Replay, Check}
+use Rattle.hy_words.specs.declared.command.TextCommand.TheVariants.{Replay, Check, Keep}
 use Rattle.hy_top.specs.declared.status.Status.{Status}
 use Rattle.hy_top.specs.declared.status.Status.TheVariants.{Done, BadWords, ReadFault, TooLong, NoMemory}
 
@@ -24,6 +25,7 @@ use Rattle.hy_top.specs.declared.status.Status.TheVariants.{Done, BadWords, Read
 abbrev pub Makes : TextCommand → List ℕ → Result (List ℕ) Status → Type 0
 Makes Replay text answer = Replays text answer
 Makes Check text answer = Checks text answer
+Makes (Keep stop) text answer = Keeps stop text answer
 
 -- the input was read to its end, and the command made this of it
 pub record ReadsAndMakes (command : TextCommand) (input : SourceUse) (answer : Result (List ℕ) Status) : Type 0 where

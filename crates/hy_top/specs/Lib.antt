@@ -8,6 +8,7 @@ pub mod Serve
 pub mod Reply
 pub mod Operate
 pub mod Line
+pub mod Keep
 pub mod Check
 pub mod Make
 pub mod Job

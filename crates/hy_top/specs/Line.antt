@@ -7,7 +7,7 @@ use Rattle.hy_record.specs.Stamp.{Timestamp}
 use Rattle.hy_text.specs.Line.{line_text}
 use Rattle.hy_text.specs.Stamp.{stamp_words}
 use Rattle.hy_top.specs.declared.status.Status.{Status}
-use Rattle.hy_top.specs.declared.status.Status.TheVariants.{BadInput, BadWords, NotYet, ReadFault, NetFault, TooLong, Illegal, Exhausted, TooLarge, SessionsFull}
+use Rattle.hy_top.specs.declared.status.Status.TheVariants.{BadInput, BadWords, NotYet, ReadFault, NetFault, TooLong, Illegal, Exhausted, TooLarge, SessionsFull, BadFrames}
 use Rattle.hy_order.specs.declared.verdict.Verdict.{Verdict}
 use Rattle.hy_order.specs.declared.verdict.Verdict.TheVariants.{Legal, Missing, Stranger, Twice, Early, Wrong}
 
@@ -35,6 +35,10 @@ exhausted_line stamp = line_text (codes "exhausted" ∷ stamp_words stamp)
 abbrev pub too_large_line : ℕ → List ℕ
 too_large_line size = line_text (codes "too" ∷ codes "large" ∷ decimal size ∷ [])
 
+-- the place of the first frame that is none of a request
+abbrev pub bad_frames_line : ℕ → List ℕ
+bad_frames_line place = line_text (codes "bad" ∷ codes "frames" ∷ decimal place ∷ [])
+
 -- the words that tell a verdict
 abbrev pub verdict_words : Verdict → List (List ℕ)
 verdict_words Legal = codes "legal" ∷ []
@@ -58,6 +62,7 @@ refusal_line SessionsFull = line_text (codes "sessions" ∷ codes "full" ∷ [])
 refusal_line (NotYet have need) = not_yet_line have need
 refusal_line (Exhausted stamp) = exhausted_line stamp
 refusal_line (TooLarge size) = too_large_line size
+refusal_line (BadFrames place) = bad_frames_line place
 refusal_line (BadInput fault) = bad_input_line fault
 refusal_line (Illegal key verdict) = illegal_line key verdict
 refusal_line other = []

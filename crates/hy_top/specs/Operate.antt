@@ -4,6 +4,7 @@ use Rattle.hy_base.specs.Faults.{Rose}
 use Rattle.hy_base.specs.Source.{SourceUse}
 use Rattle.hy_base.specs.declared.limits.TheConstants.{MAX_VALUE}
 use Rattle.hy_drive.specs.Role.{Drives}
+use Rattle.hy_drive.specs.declared.fault.DriveFault.{DriveFault}
 use Rattle.hy_drive.specs.declared.fault.DriveFault.TheVariants as driving
 use Rattle.hy_drive.specs.declared.job.Job.{Job}
 use Rattle.hy_record.specs.declared.action.Action.{Action}
@@ -25,23 +26,28 @@ abbrev pub job_of : Request → Action → Job
 job_of request action =
     record { f = request.f; k = request.k; meta = request.meta; clouds = request.clouds; action = action }
 
+-- how the client played over the net, and why it ended
+abbrev pub PlaysAs : Job → ℕ → NetUse → Result Reply DriveFault → Type 0
+PlaysAs job arrivals net result =
+    net.Plays (Drives job arrivals (Rose net.taking_before net.taking_after) result)
+
 -- a reply came, and this tells it
 pub record IsReplied (job : Job) (arrivals : ℕ) (net : NetUse) (answer : Result (List ℕ) Status) : Type 0 where
   pub reply : Reply
-  pub plays : net.Plays (Drives job arrivals (Ok reply))
+  pub plays : PlaysAs job arrivals net (Ok reply)
   pub told : answer ≡ reply_told reply
 
 -- a call of the net failed that no client goes on without
 pub record IsCutOff (job : Job) (arrivals : ℕ) (net : NetUse) : Type 0 where
-  pub plays : net.Plays (Drives job arrivals (Err driving.NetFault))
+  pub plays : PlaysAs job arrivals net (Err driving.NetFault)
   pub rose : Rose net.taking_before net.taking_after ⊎ Rose net.sending_before net.sending_after
 
 -- what a client over a net answers; want of memory may come at any time
 abbrev pub Operates : Job → ℕ → NetUse → Result (List ℕ) Status → Type 0
 Operates job arrivals net (Ok output) = IsReplied job arrivals net (Ok output)
 Operates job arrivals net (Err (Exhausted stamp)) = IsReplied job arrivals net (Err (Exhausted stamp))
-Operates job arrivals net (Err (NotYet have need)) = net.Plays (Drives job arrivals (Err (driving.NotYet have need)))
-Operates job arrivals net (Err SessionsFull) = net.Plays (Drives job arrivals (Err driving.SessionsFull))
+Operates job arrivals net (Err (NotYet have need)) = PlaysAs job arrivals net (Err (driving.NotYet have need))
+Operates job arrivals net (Err SessionsFull) = PlaysAs job arrivals net (Err driving.SessionsFull)
 Operates job arrivals net (Err NetFault) = IsCutOff job arrivals net
 Operates job arrivals net (Err NoMemory) = Unit {0}
 Operates job arrivals net (Err other) = ⊥

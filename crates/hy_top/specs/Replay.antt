@@ -10,7 +10,8 @@ use Rattle.hy_sched.specs.Text.{IsScheduleText, schedule_text}
 use Rattle.hy_sched.specs.declared.schedule.Schedule.{Schedule}
 use Rattle.hy_trace.specs.Hashed.{IsCollisionFree}
 use Rattle.hy_trace.specs.Held.{HasLiars}
-use Rattle.hy_world.specs.Schedules.{params_of, trace_of_schedule, report_of_schedule}
+use Rattle.hy_world.specs.Promises.{KeepsPromises, ListsCurrent}
+use Rattle.hy_world.specs.Schedules.{params_of, steps_of_schedule, trace_of_schedule, report_of_schedule}
 use Rattle.hy_top.specs.declared.status.Status.{Status}
 use Rattle.hy_top.specs.declared.status.Status.TheVariants.{BadInput, NoMemory}
 
@@ -22,8 +23,8 @@ HashesApart schedule = IsCollisionFree (params_of schedule.params) (trace_of_sch
 abbrev pub BearsItsLiars : Schedule → Type 0
 BearsItsLiars schedule = HasLiars (params_of schedule.params) schedule.params.f
 
--- the text is that of a schedule; the output is its report, in which each order is linearizable, and each version that is listed lies
--- in enough clouds to rebuild it
+-- the text is that of a schedule; the output is its report, in which each order is linearizable, each current version is listed, and
+-- each that is listed lies in enough clouds to rebuild it; and what is promised of a run holds after each step of it
 pub record IsReplayed (text output : List ℕ) : Type 0 where
   pub schedule : Schedule
   pub ranges : IsSchedule schedule
@@ -31,6 +32,8 @@ pub record IsReplayed (text output : List ℕ) : Type 0 where
   pub report : output ≡ report_text (report_of_schedule schedule)
   pub linearizable : HashesApart schedule → IsReportLinearizable (report_of_schedule schedule)
   pub retrievable : BearsItsLiars schedule → All (λ held. schedule.params.k ≤ length (clouds_of held.clouds)) (report_of_schedule schedule).held
+  pub listed : ListsCurrent (params_of schedule.params) (trace_of_schedule schedule) (report_of_schedule schedule).held
+  pub promises : KeepsPromises (params_of schedule.params) (steps_of_schedule schedule)
 
 -- the text is that of no schedule, and this is its first fault
 pub record IsNoSchedule (text : List ℕ) (fault : TextFault) : Type 0 where

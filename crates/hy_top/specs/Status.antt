@@ -9,7 +9,7 @@ use Rattle.hy_drive.specs.declared.fault.DriveFault.TheVariants as driving
 use Rattle.hy_serve.specs.declared.fault.ServeFault.{ServeFault}
 use Rattle.hy_serve.specs.declared.fault.ServeFault.TheVariants as serving
 use Rattle.hy_top.specs.declared.status.Status.{Status}
-use Rattle.hy_top.specs.declared.status.Status.TheVariants.{Done, BadInput, BadWords, NotYet, ReadFault, WriteFault, NetFault, NoMemory, TooLong, Illegal, Exhausted, TooLarge, SessionsFull}
+use Rattle.hy_top.specs.declared.status.Status.TheVariants.{Done, BadInput, BadWords, NotYet, ReadFault, WriteFault, NetFault, NoMemory, TooLong, Illegal, Exhausted, TooLarge, SessionsFull, BadFrames}
 
 -- the number by which the program tells its status
 abbrev pub exit_code : Status → ℕ
@@ -26,6 +26,7 @@ exit_code (Illegal key verdict) = 9
 exit_code (Exhausted stamp) = 10
 exit_code (TooLarge size) = 11
 exit_code SessionsFull = 12
+exit_code (BadFrames place) = 13
 
 -- the status where an input could not be read to its end
 abbrev pub status_of_reading : ReadAllFault → Status

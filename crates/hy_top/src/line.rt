@@ -4,7 +4,7 @@ ghost use Rattle.std.specs.Prelude.{◌≡◌, ◌∷◌, [], ◌++◌, IfOk, On
 ghost use Rattle.std.specs.Fmt.{decimal};
 ghost use Rattle.hy_text.specs.Line.{line_text, spaced};
 ghost use Rattle.hy_text.specs.Stamp.{stamp_words};
-ghost use Rattle.hy_top.specs.Line.{arrivals_line, bad_input_line, legal_line, illegal_line, not_yet_line, refusal_line, too_large_line, verdict_words};
+ghost use Rattle.hy_top.specs.Line.{arrivals_line, bad_frames_line, bad_input_line, legal_line, illegal_line, not_yet_line, refusal_line, too_large_line, verdict_words};
 
 use crate::status::Status;
 use hy_base::{Blob, NoMemory, TextFault};
@@ -26,6 +26,7 @@ pub(crate) fn refusal_line(alloc: Global, status: &Status) -> Result<Blob, NoMem
         Status::NotYet { have, need } => not_yet_line(alloc, *have, *need),
         Status::Exhausted(stamp) => Ok(Blob::of(stamp_line(alloc, b"exhausted", stamp)?)),
         Status::TooLarge(size) => too_large_line(alloc, *size),
+        Status::BadFrames(place) => bad_frames_line(alloc, *place),
         Status::BadInput(fault) => bad_input_line(alloc, *fault),
         Status::Illegal(key, verdict) => illegal_line(alloc, key, *verdict),
         Status::Done | Status::WriteFault | Status::NoMemory => Ok(Blob::of(Vec::new(alloc))),
@@ -39,6 +40,16 @@ fn bad_input_line(alloc: Global, fault: TextFault) -> Result<Blob, NoMemory>
     let mut line = Vec::from_slice(alloc, b"bad input")?;
     push_number_word(&mut line, fault.line.into())?;
     push_word(&mut line, cause_name(fault.cause).as_bytes())?;
+    line.push(b'\n')?;
+    Ok(Blob::of(line))
+}
+
+/// The line that names the first frame that is none of a request.
+fn bad_frames_line(alloc: Global, place: u64) -> Result<Blob, NoMemory>
+    ensures { IfOk result (λ text. text ≡ bad_frames_line place) }
+{
+    let mut line = Vec::from_slice(alloc, b"bad frames")?;
+    push_number_word(&mut line, place)?;
     line.push(b'\n')?;
     Ok(Blob::of(line))
 }

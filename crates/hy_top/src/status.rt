@@ -1,11 +1,13 @@
 //! How a run of the program ends.
 
 ghost use Rattle.std.specs.Prelude.{◌≡◌};
+ghost use Rattle.hy_top.specs.Keep.{status_of_requests};
 ghost use Rattle.hy_top.specs.Status.{status_of_driving, status_of_reading, status_of_serving, status_of_text};
 ghost use Rattle.hy_top.specs.declared.status.Status.TheVariants as statuses;
 
 use hy_base::{NoMemory, ReadAllFault, TextError, TextFault};
 use hy_drive::DriveFault;
+use hy_journal::RequestsFault;
 use hy_order::Verdict;
 use hy_record::{Key, Stamp};
 use hy_serve::ServeFault;
@@ -40,6 +42,8 @@ pub enum Status {
     TooLarge(u64),
     /// The metadata's server has no session left.
     SessionsFull,
+    /// The input is not frames of requests: the place of the first that is none.
+    BadFrames(u64),
 }
 
 impl Status {
@@ -63,6 +67,7 @@ impl Status {
             Status::Exhausted(_) => 10,
             Status::TooLarge(_) => 11,
             Status::SessionsFull => 12,
+            Status::BadFrames(_) => 13,
         }
     }
 }
@@ -94,6 +99,17 @@ impl From<TextError> for Status {
         match error {
             TextError::Fault(fault) => Status::BadInput(fault),
             TextError::NoMemory => Status::NoMemory,
+        }
+    }
+}
+
+impl From<RequestsFault> for Status {
+    ghost from_gives = { λ fault status. status ≡ status_of_requests fault };
+
+    fn from(fault: RequestsFault) -> Status {
+        match fault {
+            RequestsFault::BadFrame(place) => Status::BadFrames(place),
+            RequestsFault::NoMemory => Status::NoMemory,
         }
     }
 }

@@ -1,9 +1,12 @@
 //! What each command on a text makes of it.
 
+ghost use Rattle.std.specs.Prelude.{◌≤◌, length};
+ghost use Rattle.hy_base.specs.declared.limits.TheConstants.{MAX_INPUT};
 ghost use Rattle.hy_top.specs.Check.{Checks};
 ghost use Rattle.hy_top.specs.Job.{Makes};
 ghost use Rattle.hy_top.specs.Replay.{Replays};
 
+use crate::keep::keep_frames;
 use crate::line::legal_line;
 use crate::status::Status;
 use hy_base::Blob;
@@ -15,11 +18,13 @@ use std::alloc::Global;
 
 /// What the command makes of the text: its output, or why it is refused.
 pub(crate) fn output_on(alloc: Global, command: TextCommand, text: Blob) -> Result<Blob, Status>
+    requires { length text ≤ MAX_INPUT }
     ensures { Makes command text result }
 {
     match command {
         TextCommand::Replay => replay_text(alloc, text),
         TextCommand::Check => check_text(alloc, text),
+        TextCommand::Keep { stop } => keep_frames(alloc, stop, text),
     }
 }
 

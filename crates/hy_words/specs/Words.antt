@@ -4,7 +4,7 @@ use Rattle.hy_base.specs.Results.{◌>>=◌}
 use Rattle.hy_base.specs.Shape.{IsShape}
 use Rattle.hy_base.specs.declared.fault.Cause.{Cause}
 use Rattle.hy_base.specs.declared.fault.Cause.TheVariants.{BadKey, BadWord}
-use Rattle.hy_base.specs.declared.limits.TheConstants.{MAX_F, MAX_K, MAX_MADE}
+use Rattle.hy_base.specs.declared.limits.TheConstants.{MAX_COUNT, MAX_F, MAX_K, MAX_MADE}
 use Rattle.hy_record.specs.Key.{is_cell}
 use Rattle.hy_text.specs.Line.{first_word, later_words}
 use Rattle.hy_text.specs.Slot.{end_of, key_word, number_of}
@@ -24,6 +24,7 @@ use Rattle.hy_words.specs.declared.request.Request.{Request}
 abbrev pub name_word : Name → List ℕ
 name_word names.Replay = codes "replay"
 name_word names.Check = codes "check"
+name_word names.Keep = codes "keep"
 name_word names.Make = codes "make"
 name_word names.Vectors = codes "vectors"
 name_word names.Meta = codes "meta"
@@ -36,7 +37,7 @@ name_word names.Collect = codes "collect"
 -- the names of all commands
 abbrev pub all_names : List Name
 all_names =
-    names.Replay ∷ names.Check ∷ names.Make ∷ names.Vectors ∷ names.Meta ∷ names.Cloud
+    names.Replay ∷ names.Check ∷ names.Keep ∷ names.Make ∷ names.Vectors ∷ names.Meta ∷ names.Cloud
     ∷ names.Put ∷ names.Get ∷ names.Delete ∷ names.Collect ∷ []
 
 -- the number of the option, or the usual one where it is not given
@@ -55,6 +56,13 @@ make_of words =
     number_of 0 MAX_MADE (first_word (later_words words)) >>= λ events.
     end_of (later_words (later_words words)) >>= λ _.
     Ok (Make seed events)
+
+-- the number of the call that is to fail
+unfoldable pub keep_of : List (List ℕ) → Result Command Cause
+keep_of words =
+    number_of 0 MAX_COUNT (first_word words) >>= λ stop.
+    end_of (later_words words) >>= λ _.
+    Ok (OnText (texts.Keep stop))
 
 -- a port up to this one
 abbrev pub port_of : ℕ → List ℕ → Result ℕ Cause
@@ -105,6 +113,7 @@ on_store command usual words =
 abbrev pub command_by : Name → List (List ℕ) → Result Command Cause
 command_by names.Replay words = alone (OnText texts.Replay) words
 command_by names.Check words = alone (OnText texts.Check) words
+command_by names.Keep words = keep_of words
 command_by names.Make words = make_of words
 command_by names.Vectors words = alone Vectors words
 command_by names.Meta words = served_of words >>= λ served. Ok (Meta served.0 served.1)

@@ -19,13 +19,15 @@ pub enum Command {
     OnStore(StoreCommand, Request),
 }
 
-/// What a command on a text does with it.
+/// What a command on a text, or on frames, does with it.
 #[derive(Clone, Copy, Debug, PartialEq, Eq)]
 pub enum TextCommand {
     /// The replay of a schedule.
     Replay,
     /// The check of a report.
     Check,
+    /// What a keeper answers to frames of requests, on a disk whose call of this number fails.
+    Keep { stop: u32 },
 }
 
 /// What a command on a store does with the key.

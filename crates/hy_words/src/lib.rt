@@ -1,4 +1,12 @@
-//! The words of the command line: which command they ask for, with its numbers.
+//! The words of the command line: which command they ask for, with its numbers and key.
+//!
+//!     let command = read_command(&words)?;
+//!
+//! Definitions: `specs/Words.antt` and `specs/Given.antt`, after the table of `docs/USE.md`.
+//!
+//! Proved: the words ask for exactly the command that their table has for them, with the numbers and the key
+//! that they spell, within their limits; a key is no option, and a put or delete names no compare-and-swap key
+//! (`reading.rt`, `read_command`: `IsInRange`).
 #![tactic(auto)]
 
 mod command;

@@ -9,6 +9,7 @@ use hy_text::Named;
 pub(crate) enum Name {
     Replay,
     Check,
+    Keep,
     Make,
     Vectors,
     Meta,
@@ -20,9 +21,10 @@ pub(crate) enum Name {
 }
 
 /// The names of all commands.
-pub(crate) const NAMES: [Name; 10] = [
+pub(crate) const NAMES: [Name; 11] = [
     Name::Replay,
     Name::Check,
+    Name::Keep,
     Name::Make,
     Name::Vectors,
     Name::Meta,
@@ -40,6 +42,7 @@ impl Named for Name {
         match self {
             Name::Replay => b"replay",
             Name::Check => b"check",
+            Name::Keep => b"keep",
             Name::Make => b"make",
             Name::Vectors => b"vectors",
             Name::Meta => b"meta",

@@ -2,7 +2,7 @@
 
 ghost use Rattle.std.specs.Prelude.{◌≡◌, IfOk, false, map, string_bytes};
 ghost use Rattle.hy_words.specs.Given.{is_option};
-ghost use Rattle.hy_words.specs.Words.{IsInRange, IsPort, IsRequest, alone, command_by, command_of, is_misplaced, key_for, make_of, on_store, port_of, request_of, served_of};
+ghost use Rattle.hy_words.specs.Words.{IsInRange, IsPort, IsRequest, alone, command_by, command_of, is_misplaced, keep_of, key_for, make_of, on_store, port_of, request_of, served_of};
 
 use crate::command::{Command, StoreCommand, TextCommand};
 use crate::given::{given_of, is_option};
@@ -12,7 +12,7 @@ use crate::limits::{
 use crate::name::{NAMES, Name};
 use crate::operands::{Operands, first_word};
 use crate::request::Request;
-use hy_base::{Cause, MAX_F, MAX_K, MAX_MADE};
+use hy_base::{Cause, MAX_COUNT, MAX_F, MAX_K, MAX_MADE};
 use hy_record::Key;
 use hy_text::{read_key, read_named, read_number, read_u32};
 
@@ -33,6 +33,7 @@ fn command_by(name: Name, words: &[String]) -> Result<Command, Cause>
     match name {
         Name::Replay => alone(Command::OnText(TextCommand::Replay), words),
         Name::Check => alone(Command::OnText(TextCommand::Check), words),
+        Name::Keep => read_keep(words),
         Name::Make => read_make(words),
         Name::Vectors => alone(Command::Vectors, words),
         Name::Meta => {
@@ -71,6 +72,18 @@ fn read_make(words: &[String]) -> Result<Command, Cause>
     let events = read_u32(operands.next_word(), 0, MAX_MADE)?;
     operands.end()?;
     Ok(Command::Make { seed, events })
+}
+
+/// The number of the call that is to fail.
+#[tactic(auto, unfolding(crate::specs::Words::keep_of))]
+fn read_keep(words: &[String]) -> Result<Command, Cause>
+    ensures command { result ≡ keep_of (map string_bytes words.now) }
+    ensures range { IfOk result IsInRange }
+{
+    let mut operands = Operands::of(words, &[]);
+    let stop = read_u32(operands.next_word(), 0, MAX_COUNT)?;
+    operands.end()?;
+    Ok(Command::OnText(TextCommand::Keep { stop }))
 }
 
 /// A port up to this one.

@@ -11,7 +11,7 @@ use std::alloc::Global;
 use std::test::Fail;
 
 /// The name of a schedule, its text, and its report.
-const WORKED: [(&str, &str, &str); 19] = [
+const WORKED: [(&str, &str, &str); 25] = [
     (
         "put_then_get",
         "hybris 1 f 0 k 1 liars -\nopen\ndo 1 put a 616263\ndo 1 get a\n",
@@ -103,6 +103,36 @@ const WORKED: [(&str, &str, &str); 19] = [
         "hybris 1 f 1 k 1 liars 0,1,2\nopen\ninvoke 1 put a 01\ngive 1\ngive 2\nlie 0 1 1 a 1 1 stored\nlie 1 1 1 a 1 1 stored\ngive 5\ngive 6\ndo 1 get a\n",
         "op 1 1 put a 01 2 8 done 1 1\nop 2 1 get a 9 - fetch 0 1\norder a 1\nheld a 1 1 -\nend 2 1\n",
     ),
+    (
+        "swap_sequence",
+        "hybris 1 f 0 k 1 liars -\nopen\nopen\ndo 1 swap _a 0 0 01\ndo 2 swap _a 0 0 02\ndo 2 swap _a 1 1 03\ndo 1 get _a\n",
+        "op 1 1 swap _a 0 0 01 3 9 swapped 1 1\nop 2 2 swap _a 0 0 02 10 12 changed 1 1\nop 3 2 swap _a 1 1 03 13 19 swapped 2 2\nop 4 1 get _a 20 24 value 03 2 2\norder _a 1 2 3 4\nheld _a 2 2 0\nend 4 1\n",
+    ),
+    (
+        "repeated_swap_acts_once",
+        "hybris 1 f 0 k 1 liars -\nopen\nopen\ninvoke 1 swap _a 0 0 01\ngive 1\ngive 2\ngive 3\ngive 4\ngive 5\ndo 2 swap _a 1 1 02\ngive 5\ngive 13\n",
+        "op 1 1 swap _a 0 0 01 3 17 swapped 1 1\nop 2 2 swap _a 1 1 02 9 15 swapped 2 2\norder _a 1 2\nheld _a 2 2 0\nend 2 1\n",
+    ),
+    (
+        "competing_swaps",
+        "hybris 1 f 0 k 1 liars -\nopen\nopen\ninvoke 1 swap _a 0 0 01\ninvoke 2 swap _a 0 0 02\ngive 1\ngive 2\ngive 3\ngive 4\ngive 5\ngive 6\ngive 7\ngive 8\ngive 9\ngive 10\ngive 11\ngive 12\n",
+        "op 1 1 swap _a 0 0 01 3 15 swapped 1 1\nop 2 2 swap _a 0 0 02 4 16 changed 1 1\norder _a 1 2\nheld _a 1 1 0\nend 2 1\n",
+    ),
+    (
+        "loser_swaps_again",
+        "hybris 1 f 0 k 1 liars -\nopen\nopen\ninvoke 1 swap _a 0 0 01\ninvoke 2 swap _a 0 0 02\ngive 1\ngive 2\ngive 3\ngive 4\ngive 5\ngive 6\ngive 7\ngive 8\ngive 9\ngive 10\ngive 11\ngive 12\ndo 2 swap _a 1 1 03\ndo 1 get _a\n",
+        "op 1 1 swap _a 0 0 01 3 15 swapped 1 1\nop 2 2 swap _a 0 0 02 4 16 changed 1 1\nop 3 2 swap _a 1 1 03 17 23 swapped 2 2\nop 4 1 get _a 24 28 value 03 2 2\norder _a 1 2 3 4\nheld _a 2 2 0\nend 4 1\n",
+    ),
+    (
+        "swap_is_repeated_after_another_won",
+        "hybris 1 f 0 k 1 liars -\nopen\nopen\ninvoke 1 swap _a 0 0 01\ngive 1\ngive 2\ngive 3\ngive 4\ngive 5\ndo 2 swap _a 1 1 02\ntick 1\ngive 13\ngive 14\ndo 1 get _a\n",
+        "op 1 1 swap _a 0 0 01 3 18 swapped 1 1\nop 2 2 swap _a 1 1 02 9 15 swapped 2 2\nop 3 1 get _a 19 23 value 02 2 2\norder _a 1 2 3\nheld _a 2 2 0\nend 3 1\n",
+    ),
+    (
+        "swaps_of_three_clients_with_a_liar_and_a_collection",
+        "hybris 1 f 1 k 1 liars 0\nopen\nopen\nopen\ndo 1 swap _a 0 0 01\nlie 0 1 1 _a 1 1 stored\ngive 6\ngive 7\ninvoke 2 swap _a 1 1 02\ninvoke 3 swap _a 1 1 03\ngive 8\ngive 9\ngive 10\ngive 11\ngive 13\ngive 15\ngive 16\ngive 17\nlie 0 2 1 _a 2 2 stored\ntick 3\ngive 20\ngive 21\ngive 22\ngive 18\ndo 1 collect _a\ngive 24\ntick 3\ngive 39\ngive 40\ndo 2 get _a\ndo 1 swap _a 1 1 05\n",
+        "op 1 1 swap _a 0 0 01 4 12 swapped 1 1\nop 2 2 swap _a 1 1 02 13 44 changed 2 3\nop 3 3 swap _a 1 1 03 14 47 swapped 2 3\nop 4 1 collect _a 29 43 collected 2\nop 5 2 get _a 48 52 value 03 2 3\nop 6 1 swap _a 1 1 05 53 55 changed 2 3\norder _a 1 3 2 5 6\nheld _a 2 3 1,2\nend 6 1\n",
+    ),
 ];
 
 /// Collections that race with two writers and a reader, in a coded store with a liar.
@@ -155,6 +185,21 @@ fn worked_schedules_have_their_reports(rt: HostRuntime) -> Result<(), Fail> {
         assert_eq!(rt; written.as_str(), report, "{name}");
     }
     Ok(())
+}
+
+#[test]
+fn keys_of_swaps_are_refused_to_puts(rt: HostRuntime) -> Result<(), Fail> {
+    let put = "hybris 1 f 0 k 1 liars -\ndo 1 put _a 01\n";
+    let swap = "hybris 1 f 0 k 1 liars -\ndo 1 swap a 0 0 01\n";
+    let line = "bad input 2 BadKey\n";
+    all_answer(
+        &rt,
+        rt.alloc(),
+        &[
+            replay_of(put, bad_input(2, Cause::BadKey), line),
+            replay_of(swap, bad_input(2, Cause::BadKey), line),
+        ],
+    )
 }
 
 #[test]

@@ -1,6 +1,6 @@
 use Rattle.std.proofs.Common.{◌<◌, ℕ, sym, ◌∙◌, arith}
 use Rattle.std.proofs.lemmas.List.Elements.{All-from_get_or}
-use Rattle.hy_journal.proofs.Entries.{lacks_partial, lacks_fault, lacks_gate, lacks_kind, has_entry}
+use Rattle.hy_journal.proofs.Entries.{lacks_partial, lacks_swap, lacks_gate, lacks_kind, has_entry}
 use Rattle.hy_journal.proofs.entry.entry_at.Goals as goal
 
 pub returns-then-size-bytes : goal.returns-then-size-bytes
@@ -26,7 +26,8 @@ returns-in-Partial c =
     let seen = rw c.in-Partial.is at c.in_ok-message.ensures.front in
     lacks_partial c.frames_are_read_back.ensures.again c.args.bytes.now seen
 
-pub returns-in-Fault : goal.returns-in-Fault
-returns-in-Fault c =
+pub returns-in-None-2 : goal.returns-in-None-2
+returns-in-None-2 c =
     let seen = rw c.in-Fault.is at c.in_ok-message.ensures.front in
-    lacks_fault c.frames_are_read_back.ensures.again c.args.bytes.now c.in-Fault._fault seen
+    let lacks = rw c.in-None-2.is at c.in_ok-swap-in-Fault.ensures in
+    lacks_swap c.frames_are_read_back.ensures.again c.args.bytes.now c.in-Fault._fault seen lacks
