@@ -1,0 +1,9 @@
+pub mod Layout
+pub mod Events
+pub mod Rows
+pub mod Recorded
+pub mod Rule
+pub mod Moves
+pub mod Sessions
+pub mod Answers
+pub mod Found
